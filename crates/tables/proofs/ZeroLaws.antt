@@ -1,0 +1,40 @@
+-- The zeros at the front of a list, one by one: `zeros` is a walk along the list, so that it computes in as many steps as there are words.
+use Prim.Native.Nat.{ℕ, zero, suc, _+_, _<_}
+use mathlib.Core.Path.{_≡_, refl, sym, ap, ap₂, _∙_}
+use mathlib.Core.Bool.{Bool, true, false, _&&_}
+use mathlib.Core.List.{List, [], _∷_}
+use lib.Dec.{eqb}
+use borrow.Author.Tests.{eqb-true, eq-eqb}
+use lib.ListN.{getD, drop}
+use lib.Seq.{getD-drop}
+use Rattle.tables.specs.Every.{every, zeros, zerosFront}
+use Rattle.tables.proofs.Laws.{every-at, every-is}
+
+and-one : (a : Bool) → (a && true) ≡ a
+and-one true = refl
+and-one false = refl
+
+and-three : (a b c : Bool) → (a && (b && c)) ≡ ((a && b) && c)
+and-three true b c = refl
+and-three false b c = refl
+
+front-more : (n : ℕ) (s : List ℕ) → zerosFront (suc n) s ≡ (zerosFront n s && eqb (getD s n 0) 0)
+unfolding zerosFront
+front-more zero [] = refl
+front-more zero (x ∷ s) = and-one (eqb x 0)
+front-more (suc n) [] = refl
+front-more (suc n) (x ∷ s) = ap (λ (b : Bool). eqb x 0 && b) (front-more n s) ∙ and-three (eqb x 0) (zerosFront n s) (eqb (getD s n 0) 0)
+
+pub zeros-every : (t : List ℕ) (from n : ℕ) → every n (λ k. eqb (getD t (from + k) 0) 0) ≡ zerosFront n (drop from t)
+unfolding every zerosFront
+zeros-every t from zero = refl
+zeros-every t from (suc n) =
+    ap₂ _&&_ (zeros-every t from n) (ap (λ (w : ℕ). eqb w 0) (sym (getD-drop from t n 0)))
+    ∙ sym (front-more n (drop from t))
+
+-- each of the words is zero; and words that are each zero are zeros
+pub zeros-at : (t : List ℕ) (from n : ℕ) → zeros t from n ≡ true → (k : ℕ) → k < n → getD t (from + k) 0 ≡ 0
+zeros-at t from n h k l = eqb-true _ _ (every-at n (λ j. eqb (getD t (from + j) 0) 0) (zeros-every t from n ∙ h) k l)
+
+pub zeros-are : (t : List ℕ) (from n : ℕ) → ((k : ℕ) → k < n → getD t (from + k) 0 ≡ 0) → zeros t from n ≡ true
+zeros-are t from n h = sym (zeros-every t from n) ∙ every-is n _ (λ k l. eq-eqb _ _ (h k l))
