@@ -1,0 +1,467 @@
+//! The consistency rules 6 to 16 of document 01, over declarations that were read.
+//!
+//! Each declaration is judged against those before it, lowest number first. Only the first rule
+//! broken in the whole text is ever asked for, so judging stops there.
+
+use std::collections::{HashMap, HashSet};
+
+use crate::description::{
+    Bits, Description, Kind, Mask, Name, OffsetRange, Parameter, Part, Piece, Port, Register,
+    Variable, PARTS,
+};
+use crate::load::Refusal;
+use crate::syntax::{
+    Attribute, ListText, MaskText, ParameterText, PortText, Range, RegisterText, TypeText,
+    VariableText, REGISTERS,
+};
+
+/// What a name was declared as, with its number among those of its kind.
+#[derive(Clone, Copy, Debug, PartialEq, Eq)]
+enum Entity {
+    Device,
+    Parameter(usize),
+    Register(usize),
+    Variable,
+}
+
+/// What the variables so far hold of one part of a register.
+#[derive(Clone, Copy, Debug, Default)]
+struct Held {
+    bits: u8,
+    trigger: bool,
+}
+
+/// Bits of every register, one byte each.
+type BitMap = [u8; REGISTERS];
+
+/// The description so far, and what the rules need to remember of it.
+pub struct Judge<'t> {
+    text: &'t [u8],
+    names: HashMap<&'t [u8], Entity>,
+    places: HashSet<(Part, usize, u32)>,
+    held: [[Held; REGISTERS]; 2],
+    description: Description,
+}
+
+type Judged<T> = Result<T, Refusal>;
+
+fn refused<T>(number: u8, name: Name) -> Judged<T> {
+    Err(Refusal {
+        number,
+        place: name.place,
+    })
+}
+
+/// The parts that one or two ports (or bit lists) serve, by their modifiers. `None` is a bad pairing.
+enum Pairing {
+    /// One without modifier.
+    Both,
+    One(Part),
+    /// One of each; the part is the first one's.
+    Each(Part),
+}
+
+fn pairing(first: Option<Part>, second: Option<Option<Part>>) -> Option<Pairing> {
+    match (first, second) {
+        (None, None) => Some(Pairing::Both),
+        (Some(part), None) => Some(Pairing::One(part)),
+        (Some(one), Some(Some(other))) if one != other => Some(Pairing::Each(one)),
+        _ => None,
+    }
+}
+
+impl<'t> Judge<'t> {
+    pub fn new(text: &'t [u8]) -> Self {
+        Judge {
+            text,
+            names: HashMap::new(),
+            places: HashSet::new(),
+            held: [[Held::default(); REGISTERS]; 2],
+            description: Description::default(),
+        }
+    }
+
+    /// Rule 6.
+    fn undeclared(&self, name: Name) -> Judged<()> {
+        if self.names.contains_key(name.of(self.text)) {
+            return refused(6, name);
+        }
+        Ok(())
+    }
+
+    fn declare(&mut self, name: Name, entity: Entity) {
+        self.names.insert(name.of(self.text), entity);
+    }
+
+    pub fn device(&mut self, name: Name) -> Judged<()> {
+        self.undeclared(name)?;
+        self.declare(name, Entity::Device);
+        Ok(())
+    }
+
+    pub fn parameter(&mut self, parameter: ParameterText) -> Judged<()> {
+        let name = parameter.name;
+        self.undeclared(name)?;
+        let ranges = match parameter.ranges {
+            None => vec![OffsetRange { low: 0, high: 0 }],
+            Some(ranges) => ranges
+                .iter()
+                .map(|range| OffsetRange {
+                    low: range.first,
+                    high: range.last,
+                })
+                .collect(),
+        };
+        if ranges
+            .iter()
+            .any(|range| range.low > range.high || range.high > 255)
+        {
+            return refused(8, name);
+        }
+        if parameter.width != 8 {
+            return refused(12, name);
+        }
+        self.declare(name, Entity::Parameter(self.description.parameters.len()));
+        self.description.parameters.push(Parameter {
+            name,
+            width: parameter.width,
+            ranges,
+        });
+        Ok(())
+    }
+
+    pub fn register(&mut self, register: RegisterText) -> Judged<()> {
+        let name = register.name;
+        self.undeclared(name)?;
+
+        let first = self.port_parameter(&register.first)?;
+        let second = match &register.second {
+            Some(port) => Some(self.port_parameter(port)?),
+            None => None,
+        };
+        let first = self.place(name, &register.first, first)?;
+        let second = match (&register.second, second) {
+            (Some(port), Some(parameter)) => Some(self.place(name, port, parameter)?),
+            _ => None,
+        };
+
+        let (read, write) = match pairing(
+            register.first.modifier,
+            register.second.as_ref().map(|port| port.modifier),
+        ) {
+            None => return refused(9, name),
+            Some(Pairing::Both) => (Some(first), Some(first)),
+            Some(Pairing::One(Part::Read)) => (Some(first), None),
+            Some(Pairing::One(Part::Write)) => (None, Some(first)),
+            Some(Pairing::Each(Part::Read)) => (Some(first), second),
+            Some(Pairing::Each(Part::Write)) => (second, Some(first)),
+        };
+        let Some((read_mask, write_mask)) = masks(&register.masks, read.is_some(), write.is_some())
+        else {
+            return refused(9, name);
+        };
+        let port = |place: Option<(usize, u32)>, mask: Mask| {
+            place.map(|(parameter, offset)| Port {
+                parameter,
+                offset,
+                mask,
+            })
+        };
+        let judged = Register {
+            name,
+            width: register.width,
+            read: port(read, read_mask),
+            write: port(write, write_mask),
+        };
+
+        for part in PARTS {
+            if let Some(port) = judged.part(part) {
+                if self.places.contains(&(part, port.parameter, port.offset)) {
+                    return refused(10, name);
+                }
+            }
+        }
+        if judged.width != 8 {
+            return refused(12, name);
+        }
+
+        for part in PARTS {
+            if let Some(port) = judged.part(part) {
+                self.places.insert((part, port.parameter, port.offset));
+            }
+        }
+        self.declare(name, Entity::Register(self.description.registers.len()));
+        self.description.registers.push(judged);
+        Ok(())
+    }
+
+    /// Rule 7 of a port: its name is that of an earlier parameter.
+    fn port_parameter(&self, port: &PortText) -> Judged<usize> {
+        match self.names.get(port.parameter.of(self.text)) {
+            Some(Entity::Parameter(index)) => Ok(*index),
+            _ => refused(7, port.parameter),
+        }
+    }
+
+    /// Rule 8 of a port: its offset has a value, and that lies in the parameter's set.
+    fn place(&self, name: Name, port: &PortText, parameter: usize) -> Judged<(usize, u32)> {
+        let (value, place) = match &port.offset {
+            Some(offset) => (offset.value, offset.place),
+            None => (Some(0), name.place),
+        };
+        match value {
+            Some(offset) if self.description.parameters[parameter].has_offset(offset) => {
+                Ok((parameter, offset as u32))
+            }
+            _ => Err(Refusal { number: 8, place }),
+        }
+    }
+
+    pub fn variable(&mut self, variable: VariableText) -> Judged<()> {
+        let name = variable.name;
+        self.undeclared(name)?;
+
+        let first = self.list_registers(&variable.first)?;
+        let second = match &variable.second {
+            Some(list) => Some(self.list_registers(list)?),
+            None => None,
+        };
+
+        let Some([read, write]) = self.parts(&variable, &first, second.as_deref()) else {
+            return refused(11, name);
+        };
+
+        let (kind, width) = match variable.kind {
+            TypeText::Int(width) => (Kind::Int, width),
+            TypeText::SignedInt(width) => (Kind::Signed, width),
+            TypeText::Bool => (Kind::Bool, 1),
+        };
+        if [&read, &write]
+            .into_iter()
+            .flatten()
+            .any(|part| part.count != width)
+        {
+            return refused(12, name);
+        }
+
+        let present = [read.is_some(), write.is_some()];
+        let Some(attributes) = attributes(&variable.attributes, present) else {
+            return refused(13, name);
+        };
+        let triggers = [attributes.read_trigger, attributes.write_trigger];
+
+        for (held, part) in self.held.iter().zip([&read, &write]) {
+            if let Some(part) = part {
+                if held
+                    .iter()
+                    .zip(&part.map)
+                    .any(|(held, bits)| held.bits & bits != 0)
+                {
+                    return refused(14, name);
+                }
+            }
+        }
+        for ((held, part), trigger) in self.held.iter().zip([&read, &write]).zip(triggers) {
+            if let Some(part) = part {
+                let shared = |(held, bits): (&Held, &u8)| {
+                    *bits != 0 && held.bits != 0 && (held.trigger || trigger)
+                };
+                if held.iter().zip(&part.map).any(shared) {
+                    return refused(15, name);
+                }
+            }
+        }
+
+        for ((held, part), trigger) in self.held.iter_mut().zip([&read, &write]).zip(triggers) {
+            if let Some(part) = part {
+                for (held, bits) in held.iter_mut().zip(&part.map) {
+                    if *bits != 0 {
+                        held.bits |= bits;
+                        held.trigger |= trigger;
+                    }
+                }
+            }
+        }
+        self.declare(name, Entity::Variable);
+        let bits = |part: Option<PartBits>, trigger| {
+            part.map(|part| Bits {
+                trigger,
+                pieces: part.pieces,
+            })
+        };
+        self.description.variables.push(Variable {
+            name,
+            kind,
+            width,
+            volatile: attributes.volatile,
+            read: bits(read, attributes.read_trigger),
+            write: bits(write, attributes.write_trigger),
+        });
+        Ok(())
+    }
+
+    /// Rule 7 of a bit list: its names are those of earlier registers.
+    fn list_registers(&self, list: &ListText) -> Judged<Vec<usize>> {
+        list.registers
+            .iter()
+            .map(|(name, _)| match self.names.get(name.of(self.text)) {
+                Some(Entity::Register(index)) => Ok(*index),
+                _ => refused(7, *name),
+            })
+            .collect()
+    }
+
+    /// Rule 11: the read part and the write part that the bit lists give, or `None`.
+    fn parts(
+        &self,
+        variable: &VariableText,
+        first: &[usize],
+        second: Option<&[usize]>,
+    ) -> Option<[Option<PartBits>; 2]> {
+        let modifiers = (
+            variable.first.modifier,
+            variable.second.as_ref().map(|list| list.modifier),
+        );
+        let one = |part| self.part_bits(&variable.first, first, part);
+        let other = |part| self.part_bits(variable.second.as_ref()?, second?, part);
+        Some(match pairing(modifiers.0, modifiers.1)? {
+            Pairing::One(Part::Read) => [Some(one(Part::Read)?), None],
+            Pairing::One(Part::Write) => [None, Some(one(Part::Write)?)],
+            Pairing::Each(Part::Read) => [Some(one(Part::Read)?), Some(other(Part::Write)?)],
+            Pairing::Each(Part::Write) => [Some(other(Part::Read)?), Some(one(Part::Write)?)],
+            Pairing::Both => {
+                let given = |part| {
+                    let has =
+                        |&index: &usize| self.description.registers[index].part(part).is_some();
+                    first.iter().all(has)
+                };
+                let read = if given(Part::Read) {
+                    Some(one(Part::Read)?)
+                } else {
+                    None
+                };
+                let write = if given(Part::Write) {
+                    Some(one(Part::Write)?)
+                } else {
+                    None
+                };
+                if read.is_none() && write.is_none() {
+                    return None;
+                }
+                [read, write]
+            }
+        })
+    }
+
+    /// The bits that a list takes in one part, if each is a dot there and none comes twice.
+    fn part_bits(&self, list: &ListText, registers: &[usize], part: Part) -> Option<PartBits> {
+        let mut bits = PartBits {
+            pieces: Vec::new(),
+            map: [0; REGISTERS],
+            count: 0,
+        };
+        for ((_, ranges), &register) in list.registers.iter().zip(registers) {
+            let dots = self.description.registers[register].part(part)?.mask.dots;
+            let whole = [Range { first: 7, last: 0 }];
+            for range in ranges.as_deref().unwrap_or(&whole) {
+                let (high, low) = (range.first, range.last);
+                if high > 7 || low > high {
+                    return None;
+                }
+                let taken = ((2u32 << high) - (1 << low)) as u8;
+                if taken & !dots != 0 || bits.map[register] & taken != 0 {
+                    return None;
+                }
+                bits.map[register] |= taken;
+                bits.count += high - low + 1;
+                bits.pieces.push(Piece {
+                    register,
+                    high,
+                    low,
+                });
+            }
+        }
+        if bits.count > 32 {
+            return None;
+        }
+        Some(bits)
+    }
+
+    /// Rule 16, and then the description.
+    pub fn finish(self) -> Judged<Description> {
+        for (index, register) in self.description.registers.iter().enumerate() {
+            for (part, held) in PARTS.into_iter().zip(&self.held) {
+                if let Some(port) = register.part(part) {
+                    if port.mask.dots & !held[index].bits != 0 {
+                        return refused(16, register.name);
+                    }
+                }
+            }
+        }
+        Ok(self.description)
+    }
+}
+
+/// What one part of a variable takes.
+struct PartBits {
+    pieces: Vec<Piece>,
+    map: BitMap,
+    count: u32,
+}
+
+/// Rule 9 of the masks: the mask of the read part and that of the write part.
+fn masks(masks: &[MaskText], read: bool, write: bool) -> Option<(Mask, Mask)> {
+    let mut read_mask = None;
+    let mut write_mask = None;
+    for text in masks {
+        let mask = Mask::of(text.elements)?;
+        let (for_read, for_write) = match text.modifier {
+            None => (read, write),
+            Some(Part::Read) if read => (true, false),
+            Some(Part::Write) if write => (false, true),
+            Some(_) => return None,
+        };
+        if for_read && read_mask.replace(mask).is_some() {
+            return None;
+        }
+        if for_write && write_mask.replace(mask).is_some() {
+            return None;
+        }
+    }
+    Some((
+        read_mask.unwrap_or(Mask::DOTS),
+        write_mask.unwrap_or(Mask::DOTS),
+    ))
+}
+
+#[derive(Default)]
+struct Attributes {
+    volatile: bool,
+    read_trigger: bool,
+    write_trigger: bool,
+}
+
+/// Rule 13: what the attributes say of a variable with these parts.
+fn attributes(list: &[Attribute], [read, write]: [bool; 2]) -> Option<Attributes> {
+    let mut said = Attributes::default();
+    let set = |flag: &mut bool, present: bool| {
+        let good = present && !*flag;
+        *flag = true;
+        good
+    };
+    for attribute in list {
+        let good = match attribute {
+            Attribute::Volatile => set(&mut said.volatile, read),
+            Attribute::Trigger(Some(Part::Read)) => set(&mut said.read_trigger, read),
+            Attribute::Trigger(Some(Part::Write)) => set(&mut said.write_trigger, write),
+            Attribute::Trigger(None) => {
+                (!read || set(&mut said.read_trigger, read))
+                    && (!write || set(&mut said.write_trigger, write))
+            }
+        };
+        if !good {
+            return None;
+        }
+    }
+    Some(said)
+}
