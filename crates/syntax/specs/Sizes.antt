@@ -1,0 +1,161 @@
+-- Document 01, "Sizes" and refusal 5: at which token of a text a size is passed. It is a count over the tokens from left to right, and knows nothing of how
+-- a text is read. It is meant for the tokens that begin a text of the grammar: from the token on that refusal 3 or 4 names, it says nothing.
+use Prim.Native.Nat.{ℕ, zero, suc, _+_}
+use Prim.Native.Char.{Char, code}
+use mathlib.Core.Bool.{Bool, true, false, _&&_, _||_}
+use mathlib.Core.List.{List, [], _∷_}
+use mathlib.Core.Option.{Option, none, some}
+use lib.Dec.{eqb, ltb}
+use lib.ListN.{length}
+use Rattle.token.specs.declared.Token.{Token}
+use Rattle.token.specs.declared.Token.the-variants.{Name, Word, Number, Bits, Sign, End, Bad}
+use Rattle.token.specs.Fair.{placeOf, goesOn}
+use Rattle.token.specs.Kind.{pick, kindOf}
+use Rattle.token.specs.Scan.{scanAt}
+
+-- ---- the sizes
+
+abbrev pub nameBytes : ℕ
+nameBytes = 64
+
+abbrev pub mostParameters : ℕ
+mostParameters = 16
+
+abbrev pub mostRanges : ℕ
+mostRanges = 16
+
+abbrev pub mostRegisters : ℕ
+mostRegisters = 64
+
+abbrev pub mostVariables : ℕ
+mostVariables = 128
+
+abbrev pub mostPieces : ℕ
+mostPieces = 8
+
+abbrev pub deepest : ℕ
+deepest = 16
+
+-- ---- where a token stands, and what is counted there
+
+-- what may enclose a number in an offset
+pub data Encloser : Type 0 where
+  parenthesis : Encloser
+  minus : Encloser
+
+pub data Spot : Type 0 where
+  front : Spot  -- before the parameters
+  parameter : ℕ → Spot  -- in the parameter of this number, from 1
+  range : ℕ → ℕ → Spot  -- in the parameter of this number, in the range of that number
+  body : Spot  -- behind the parameters, outside of declarations
+  register : List Encloser → Spot  -- in a register; in an offset behind an operand, what encloses it
+  operand : List Encloser → Spot  -- in an offset where an operand is due, what will enclose it
+  piece : ℕ → Spot  -- in a variable, in the piece of this number of a bit list
+  bracket : ℕ → Spot  -- the same, in brackets
+
+-- the kind of a sign of one byte, and of the two words that are counted
+abbrev pub sign : Char → ℕ
+sign c = 256 + code c
+
+abbrev pub 'register' : ℕ
+'register' = 529
+
+abbrev pub 'variable' : ℕ
+'variable' = 537
+
+-- A minus ends with its operand; a parenthesis where it is closed, and with it the minuses before it.
+unfoldable pub ended : List Encloser → List Encloser
+ended [] = []
+ended (parenthesis ∷ o) = parenthesis ∷ o
+ended (minus ∷ o) = ended o
+
+unfoldable pub closed : List Encloser → List Encloser
+closed [] = []
+closed (parenthesis ∷ o) = ended o
+closed (minus ∷ o) = closed o
+
+-- an operand is due behind these
+unfoldable pub asksOperand : ℕ → Bool
+asksOperand k = eqb k (sign "@") || eqb k (sign "+") || eqb k (sign "-") || eqb k (sign "*") || eqb k (sign "/") || eqb k (sign "%")
+
+-- the spot behind a token of this kind
+unfoldable pub onward : Spot → ℕ → Spot
+onward front k = pick (eqb k (sign "(")) (parameter 1) front
+onward (parameter n) k = pick (eqb k (sign ",")) (parameter (suc n)) (pick (eqb k (sign "{")) (range n 1) (pick (eqb k (sign ")")) body (parameter n)))
+onward (range n m) k = pick (eqb k (sign ",")) (range n (suc m)) (pick (eqb k (sign "}")) (parameter n) (range n m))
+onward body k = pick (eqb k 'register') (register []) (pick (eqb k 'variable') (piece 1) body)
+onward (register o) k = pick (asksOperand k) (operand o) (pick (eqb k (sign ")")) (register (closed o)) (pick (eqb k (sign ";")) body (register o)))
+onward (operand o) k = pick (eqb k (sign "(")) (operand (parenthesis ∷ o)) (pick (eqb k (sign "-")) (operand (minus ∷ o)) (register (ended o)))
+onward (piece n) k =
+    pick (eqb k (sign "#")) (piece (suc n)) (pick (eqb k (sign ",")) (piece 1) (pick (eqb k (sign "[")) (bracket n) (pick (eqb k (sign ";")) body (piece n))))
+onward (bracket n) k = pick (eqb k (sign ",")) (bracket (suc n)) (pick (eqb k (sign "]")) (piece n) (bracket n))
+
+-- Whether a token of this kind passes a size at the spot: the seventeenth parameter's, seventeenth range's or ninth piece's first token does (behind its comma
+-- or `#`); so does a parenthesis or a minus that sixteen enclose already.
+unfoldable pub passesAt : Spot → ℕ → Bool
+passesAt front k = false
+passesAt (parameter n) k = ltb mostParameters n
+passesAt (range n m) k = ltb mostRanges m
+passesAt body k = false
+passesAt (register o) k = false
+passesAt (operand o) k = (eqb k (sign "(") || eqb k (sign "-")) && ltb deepest (suc (length o))
+passesAt (piece n) k = ltb mostPieces n
+passesAt (bracket n) k = ltb mostPieces n
+
+-- ---- the count
+
+pub record Tally : Type 0 where
+  pub registers : ℕ
+  pub variables : ℕ
+  pub spot : Spot
+
+unfoldable pub nothingYet : Tally
+nothingYet = record { registers = 0; variables = 0; spot = front }
+
+unfoldable pub tallied : Tally → ℕ → Tally
+tallied c k =
+    record {
+      registers = pick (eqb k 'register') (suc (c .registers)) (c .registers);
+      variables = pick (eqb k 'variable') (suc (c .variables)) (c .variables);
+      spot = onward (c .spot) k;
+    }
+
+unfoldable pub longName : Token → Bool
+longName (Name place length) = ltb nameBytes length
+longName (Word place word) = false
+longName (Number place value) = false
+longName (Bits place length) = false
+longName (Sign place sign) = false
+longName (End place) = false
+longName (Bad place) = false
+
+-- whether a size is passed at a token of this kind, the lengths of names aside
+unfoldable pub tooMuch : Tally → ℕ → Bool
+tooMuch c k =
+    (eqb k 'register' && ltb mostRegisters (suc (c .registers)))
+    || ((eqb k 'variable' && ltb mostVariables (suc (c .variables)))
+    || passesAt (c .spot) k)
+
+-- the place of the first token at which a size is passed
+unfoldable pub passedIn : Tally → List Token → Option ℕ
+passedIn c [] = none
+passedIn c (t ∷ ts) = elim (longName t || tooMuch c (kindOf t)) [ true ↦ some (placeOf t) | false ↦ passedIn (tallied c (kindOf t)) ts ]
+
+-- ---- the tokens of a text
+
+-- the tokens from a place on, so many at most; the end is none of them
+unfoldable pub tokensWith : ℕ → List ℕ → ℕ → List Token
+tokensWith zero text at = []
+tokensWith (suc most) text at =
+    elim (goesOn (scanAt text at .token)) [
+      | true ↦ scanAt text at .token ∷ tokensWith most text (scanAt text at .next)
+      | false ↦ []
+    ]
+
+-- all of them: each takes a byte at least
+unfoldable pub tokensFrom : List ℕ → ℕ → List Token
+tokensFrom text at = tokensWith (suc (length text)) text at
+
+-- THE PLACE OF REFUSAL 5
+unfoldable pub passedAt : List ℕ → Option ℕ
+passedAt text = passedIn nothingYet (tokensFrom text 0)
