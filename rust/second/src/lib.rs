@@ -4,9 +4,14 @@
 //! against the proved implementation: where the two differ, the papers decide.
 
 mod description;
+pub mod frame;
 mod load;
+pub mod replay;
 mod rules;
+mod sound;
+pub mod station;
 mod syntax;
+mod tables;
 mod token;
 
 pub use description::{
@@ -14,5 +19,12 @@ pub use description::{
     Variable, PARTS,
 };
 pub use load::{load, Refusal, Verdict, TEXT_BYTES};
+pub use sound::sound;
+pub use station::{
+    abandon, begin_read, begin_write, confirm, open, Access, Answer, Operation, Tables,
+};
 pub use syntax::{DEPTH, NAME_BYTES, PARAMETERS, PIECES, RANGES, REGISTERS, VARIABLES};
+pub use tables::{
+    load_into, lookup, tables, Loaded, PARAMETER_WORDS, REGISTER_WORDS, VARIABLE_WORDS,
+};
 pub use token::RESERVED;

@@ -1,0 +1,349 @@
+//! Scripts of station calls, one call a line, and what each line answers.
+
+use std::fmt;
+
+use crate::load::{load, Verdict};
+use crate::station::{abandon, begin_read, begin_write, confirm, open, Answer, Operation, Tables};
+use crate::tables::{lookup, tables};
+
+/// One line of a script.
+#[derive(Clone, Debug, PartialEq, Eq)]
+pub enum Call {
+    Open(Vec<u8>),
+    Read(usize),
+    Write(usize, i64),
+    Confirm(u8),
+    Abandon,
+    Lookup(Vec<u8>),
+    State,
+    /// Lends only so many bytes of the record from now on; all of them without a number.
+    LendRecord(Option<usize>),
+    LendMarks(Option<usize>),
+    Hold(Operation),
+}
+
+/// The call as a line of a script.
+impl fmt::Display for Call {
+    fn fmt(&self, f: &mut fmt::Formatter) -> fmt::Result {
+        let lend = |f: &mut fmt::Formatter, what, count: &Option<usize>| match count {
+            Some(count) => write!(f, "lend {what} {count}"),
+            None => write!(f, "lend {what} all"),
+        };
+        match self {
+            Call::Open(bytes) => {
+                write!(f, "open")?;
+                bytes.iter().try_for_each(|byte| write!(f, " 0x{byte:02X}"))
+            }
+            Call::Read(variable) => write!(f, "read {variable}"),
+            Call::Write(variable, value) => write!(f, "write {variable} {value}"),
+            Call::Confirm(byte) => write!(f, "confirm 0x{byte:02X}"),
+            Call::Abandon => write!(f, "abandon"),
+            Call::Lookup(name) => write!(f, "lookup {}", String::from_utf8_lossy(name)),
+            Call::State => write!(f, "state"),
+            Call::LendRecord(count) => lend(f, "record", count),
+            Call::LendMarks(count) => lend(f, "marks", count),
+            Call::Hold(operation) => write!(f, "hold {}", Shown(*operation)),
+        }
+    }
+}
+
+/// An operation as scripts and `state` write it.
+struct Shown(Operation);
+
+impl fmt::Display for Shown {
+    fn fmt(&self, f: &mut fmt::Formatter) -> fmt::Result {
+        match self.0 {
+            Operation::Idle => write!(f, "idle"),
+            Operation::Reading {
+                variable,
+                step,
+                gathered,
+            } => write!(f, "read {variable} {step} {gathered}"),
+            Operation::Writing {
+                variable,
+                step,
+                value,
+            } => write!(f, "write {variable} {step} {value}"),
+        }
+    }
+}
+
+/// Reads a line: `None` where it is no call, or a number does not fit its kind.
+pub fn parse(line: &[u8]) -> Option<Call> {
+    let fields: Vec<&[u8]> = fields(line).collect();
+    Some(match fields[..] {
+        [b"open", ref bytes @ ..] => Call::Open(
+            bytes
+                .iter()
+                .map(|field| number(field))
+                .collect::<Option<_>>()?,
+        ),
+        [b"read", variable] => Call::Read(number(variable)?),
+        [b"write", variable, value] => Call::Write(number(variable)?, number(value)?),
+        [b"confirm", byte] => Call::Confirm(number(byte)?),
+        [b"abandon"] => Call::Abandon,
+        [b"lookup"] => Call::Lookup(Vec::new()),
+        [b"lookup", name] => Call::Lookup(name.to_vec()),
+        [b"state"] => Call::State,
+        [b"lend", b"record", b"all"] => Call::LendRecord(None),
+        [b"lend", b"record", count] => Call::LendRecord(Some(number(count)?)),
+        [b"lend", b"marks", b"all"] => Call::LendMarks(None),
+        [b"lend", b"marks", count] => Call::LendMarks(Some(number(count)?)),
+        [b"hold", b"idle"] => Call::Hold(Operation::Idle),
+        [b"hold", b"read", variable, step, gathered] => Call::Hold(Operation::Reading {
+            variable: number(variable)?,
+            step: number(step)?,
+            gathered: number(gathered)?,
+        }),
+        [b"hold", b"write", variable, step, value] => Call::Hold(Operation::Writing {
+            variable: number(variable)?,
+            step: number(step)?,
+            value: number(value)?,
+        }),
+        _ => return None,
+    })
+}
+
+/// The fields of a line, split at spaces and tabs.
+fn fields(line: &[u8]) -> impl Iterator<Item = &[u8]> {
+    line.split(|b| matches!(b, b' ' | b'\t'))
+        .filter(|field| !field.is_empty())
+}
+
+/// A number, decimal or `0x..`, with a minus where the kind has negative ones.
+fn number<T: TryFrom<i128>>(field: &[u8]) -> Option<T> {
+    let (negative, digits) = match field {
+        [b'-', digits @ ..] => (true, digits),
+        digits => (false, digits),
+    };
+    let (radix, digits) = match digits {
+        [b'0', b'x', digits @ ..] => (16, digits),
+        digits => (10, digits),
+    };
+    if digits.is_empty() {
+        return None;
+    }
+    let mut value: i128 = 0;
+    for &b in digits {
+        let digit = (b as char).to_digit(radix)?;
+        value = value
+            .checked_mul(i128::from(radix))?
+            .checked_add(i128::from(digit))?;
+    }
+    T::try_from(if negative { -value } else { value }).ok()
+}
+
+/// A loaded text with a station's state over its tables.
+pub struct Session {
+    text: Vec<u8>,
+    parameters: Vec<u32>,
+    registers: Vec<u32>,
+    variables: Vec<u32>,
+    record: Vec<u8>,
+    marks: Vec<u8>,
+    operation: Operation,
+    /// Before the first opening the station has no record and no marks.
+    opened: bool,
+    lent_record: Option<usize>,
+    lent_marks: Option<usize>,
+}
+
+impl Session {
+    /// Loads a text; a refused one is its verdict.
+    pub fn new(text: &[u8]) -> Result<Session, Verdict> {
+        let description = match load(text) {
+            Verdict::Accepted { description } => description,
+            refused => return Err(refused),
+        };
+        let (parameters, registers, variables) = tables(&description);
+        Ok(Session {
+            text: text.to_vec(),
+            record: vec![0; description.registers.len()],
+            marks: vec![0; description.variables.len()],
+            parameters,
+            registers,
+            variables,
+            operation: Operation::Idle,
+            opened: false,
+            lent_record: None,
+            lent_marks: None,
+        })
+    }
+
+    pub fn operation(&self) -> Operation {
+        self.operation
+    }
+
+    pub fn perform(&mut self, call: &Call) -> String {
+        match call {
+            Call::Open(_) | Call::Read(_) | Call::Write(..) | Call::Confirm(_) | Call::Abandon => {
+                self.station_call(call).to_string()
+            }
+            Call::Lookup(name) => match lookup(&self.text, &self.variables, name) {
+                Some(variable) => format!("variable {variable}"),
+                None => "none".to_string(),
+            },
+            Call::State => self.state(),
+            Call::LendRecord(count) => {
+                self.lent_record = *count;
+                "lent".to_string()
+            }
+            Call::LendMarks(count) => {
+                self.lent_marks = *count;
+                "lent".to_string()
+            }
+            Call::Hold(operation) => {
+                self.operation = *operation;
+                "held".to_string()
+            }
+        }
+    }
+
+    fn station_call(&mut self, call: &Call) -> Answer {
+        let tables = Tables {
+            parameters: &self.parameters,
+            registers: &self.registers,
+            variables: &self.variables,
+        };
+        let there = self.opened || matches!(call, Call::Open(_));
+        let record = lend(&mut self.record, self.lent_record, there);
+        let marks = lend(&mut self.marks, self.lent_marks, there);
+        let operation = &mut self.operation;
+        let answer = match call {
+            Call::Open(bytes) => open(tables, bytes, record, marks, operation),
+            Call::Read(variable) => begin_read(tables, record, marks, operation, *variable),
+            Call::Write(variable, value) => {
+                begin_write(tables, record, marks, operation, *variable, *value)
+            }
+            Call::Confirm(byte) => confirm(tables, record, marks, operation, *byte),
+            _ => abandon(tables, record, marks, operation),
+        };
+        self.opened |= answer == Answer::Opened;
+        answer
+    }
+
+    /// `record BB BB .. marks M M .. operation ..`, with the whole record and all marks.
+    fn state(&self) -> String {
+        let mut line = "record".to_string();
+        if self.opened {
+            self.record
+                .iter()
+                .for_each(|byte| line += &format!(" {byte:02X}"));
+        }
+        line += " marks";
+        if self.opened {
+            self.marks
+                .iter()
+                .for_each(|mark| line += &format!(" {mark}"));
+        }
+        line + &format!(" operation {}", Shown(self.operation))
+    }
+}
+
+/// The first `count` bytes, or all; none before the first opening.
+fn lend(bytes: &mut [u8], count: Option<usize>, there: bool) -> &mut [u8] {
+    let count = count.unwrap_or(bytes.len()).min(bytes.len());
+    &mut bytes[..if there { count } else { 0 }]
+}
+
+/// Runs the lines of a script over a text; gives the lines that it writes.
+pub fn replay(text: &[u8], script: &[u8]) -> Vec<String> {
+    let mut written = vec![load(text).to_string()];
+    let Ok(mut session) = Session::new(text) else {
+        return written;
+    };
+    for line in script.split(|b| *b == b'\n') {
+        match fields(line).next() {
+            None => continue,
+            Some(field) if field.starts_with(b";") => continue,
+            Some(_) => {}
+        }
+        written.push(match parse(line) {
+            Some(call) => session.perform(&call),
+            None => "unknown".to_string(),
+        });
+    }
+    written
+}
+
+#[cfg(test)]
+mod tests {
+    use super::*;
+
+    #[test]
+    fn numbers() {
+        assert_eq!(number::<u8>(b"255"), Some(255));
+        assert_eq!(number::<u8>(b"0xfF"), Some(255));
+        assert_eq!(number::<u8>(b"256"), None);
+        assert_eq!(number::<u8>(b"-1"), None);
+        assert_eq!(number::<i64>(b"-0x10"), Some(-16));
+        assert_eq!(number::<i64>(b"-9223372036854775808"), Some(i64::MIN));
+        assert_eq!(number::<i64>(b"9223372036854775808"), None);
+        assert_eq!(number::<u32>(b"4294967296"), None);
+        for bad in [&b""[..], b"-", b"0x", b"+1", b"1a", b"0X1", b"--1", b"1.0"] {
+            assert_eq!(number::<i64>(bad), None);
+        }
+        assert_eq!(number::<i64>("9".repeat(100).as_bytes()), None);
+    }
+
+    #[test]
+    fn every_call_is_its_line() {
+        for call in [
+            Call::Open(vec![0, 0xA5]),
+            Call::Open(vec![]),
+            Call::Read(3),
+            Call::Write(2, -7),
+            Call::Confirm(255),
+            Call::Abandon,
+            Call::Lookup(b"v".to_vec()),
+            Call::State,
+            Call::LendRecord(None),
+            Call::LendRecord(Some(4)),
+            Call::LendMarks(None),
+            Call::LendMarks(Some(0)),
+            Call::Hold(Operation::Idle),
+            Call::Hold(Operation::Reading {
+                variable: 1,
+                step: 2,
+                gathered: 3,
+            }),
+            Call::Hold(Operation::Writing {
+                variable: 1,
+                step: 2,
+                value: u32::MAX,
+            }),
+        ] {
+            assert_eq!(parse(call.to_string().as_bytes()), Some(call));
+        }
+    }
+
+    #[test]
+    fn no_call() {
+        for line in [
+            "opens",
+            "open 256",
+            "open -1",
+            "read",
+            "read 1 2",
+            "read x",
+            "read -1",
+            "write 1",
+            "confirm",
+            "confirm 300",
+            "abandon 1",
+            "lookup a b",
+            "state 1",
+            "lend",
+            "lend record",
+            "lend record -1",
+            "lend tables 3",
+            "hold",
+            "hold read 1 2",
+            "hold write 0 0 -1",
+            "hold write 0 0 4294967296",
+            "OPEN",
+        ] {
+            assert_eq!(parse(line.as_bytes()), None, "{line}");
+        }
+    }
+}

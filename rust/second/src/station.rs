@@ -1,0 +1,449 @@
+//! The station: reading and writing a variable, one access at a time.
+//!
+//! All state is the caller's: the record (for each register the last byte confirmed as written),
+//! the marks (one for each variable, 0 is clean), and the operation in hand. Every call takes any
+//! tables, tests its refusals from 20 up, and leaves everything unchanged when it refuses.
+
+use std::fmt;
+
+use crate::description::{Bits, Description, Kind, Part, Port, Variable};
+use crate::sound::sound;
+use crate::tables::describe;
+
+/// The three lent tables.
+#[derive(Clone, Copy, Debug)]
+pub struct Tables<'a> {
+    pub parameters: &'a [u32],
+    pub registers: &'a [u32],
+    pub variables: &'a [u32],
+}
+
+/// The operation in hand. `step` counts its confirmations; `gathered` and `value` are bit patterns
+/// of the variable's width, the bits of registers not yet read being 0.
+#[derive(Clone, Copy, Debug, Default, PartialEq, Eq)]
+pub enum Operation {
+    #[default]
+    Idle,
+    Reading {
+        variable: usize,
+        step: usize,
+        gathered: u32,
+    },
+    Writing {
+        variable: usize,
+        step: usize,
+        value: u32,
+    },
+}
+
+#[derive(Clone, Copy, Debug, PartialEq, Eq)]
+pub struct Access {
+    pub direction: Part,
+    pub parameter: usize,
+    pub offset: u32,
+    pub byte: u8,
+}
+
+#[derive(Clone, Copy, Debug, PartialEq, Eq)]
+pub enum Answer {
+    Opened,
+    Offer(Access),
+    Done { value: i64, accesses: usize },
+    Abandoned,
+    Refused(u8),
+}
+
+impl fmt::Display for Answer {
+    fn fmt(&self, f: &mut fmt::Formatter) -> fmt::Result {
+        match self {
+            Answer::Opened => write!(f, "opened"),
+            Answer::Offer(access) => {
+                let direction = match access.direction {
+                    Part::Read => "read",
+                    Part::Write => "write",
+                };
+                let Access {
+                    parameter,
+                    offset,
+                    byte,
+                    ..
+                } = access;
+                write!(f, "offer {direction} {parameter} {offset} 0x{byte:02X}")
+            }
+            Answer::Done { value, accesses } => write!(f, "done {value} {accesses}"),
+            Answer::Abandoned => write!(f, "abandoned"),
+            Answer::Refused(number) => write!(f, "refused {number}"),
+        }
+    }
+}
+
+type Answered = Result<Answer, u8>;
+
+/// Opens a station: the record takes the power-on bytes, all marks are cleared, and no operation
+/// is in hand.
+pub fn open(
+    tables: Tables,
+    power_on: &[u8],
+    record: &mut [u8],
+    marks: &mut [u8],
+    operation: &mut Operation,
+) -> Answer {
+    answer((|| {
+        let description = described(tables)?;
+        let registers = description.registers.len();
+        if power_on.len() < registers {
+            return Err(21);
+        }
+        long_enough(&description, record, marks)?;
+        record[..registers].copy_from_slice(&power_on[..registers]);
+        marks[..description.variables.len()].fill(0);
+        *operation = Operation::Idle;
+        Ok(Answer::Opened)
+    })())
+}
+
+/// Begins to read a variable: offers its first access.
+pub fn begin_read(
+    tables: Tables,
+    record: &[u8],
+    marks: &[u8],
+    operation: &mut Operation,
+    variable: usize,
+) -> Answer {
+    answer((|| {
+        let description = described(tables)?;
+        long_enough(&description, record, marks)?;
+        none_in_hand(&description, operation)?;
+        let wanted = description.variables.get(variable).ok_or(25)?;
+        let bits = wanted.read.as_ref().ok_or(26)?;
+        if marks[variable] != 0 {
+            return Err(28);
+        }
+        *operation = Operation::Reading {
+            variable,
+            step: 0,
+            gathered: 0,
+        };
+        Ok(Answer::Offer(read_access(&description, bits, 0)))
+    })())
+}
+
+/// Begins to write a variable: offers its first access.
+pub fn begin_write(
+    tables: Tables,
+    record: &[u8],
+    marks: &[u8],
+    operation: &mut Operation,
+    variable: usize,
+    value: i64,
+) -> Answer {
+    answer((|| {
+        let description = described(tables)?;
+        long_enough(&description, record, marks)?;
+        none_in_hand(&description, operation)?;
+        let wanted = description.variables.get(variable).ok_or(25)?;
+        let bits = wanted.write.as_ref().ok_or(26)?;
+        let value = pattern(wanted, value).ok_or(27)?;
+        *operation = Operation::Writing {
+            variable,
+            step: 0,
+            value,
+        };
+        Ok(Answer::Offer(write_access(
+            &description,
+            bits,
+            0,
+            value,
+            record,
+        )))
+    })())
+}
+
+/// Confirms the access on offer, with the byte read; for a write the byte is ignored.
+pub fn confirm(
+    tables: Tables,
+    record: &mut [u8],
+    marks: &mut [u8],
+    operation: &mut Operation,
+    byte: u8,
+) -> Answer {
+    answer((|| {
+        let description = described(tables)?;
+        long_enough(&description, record, marks)?;
+        match in_hand(&description, operation)? {
+            InHand::Nothing => Err(24),
+            InHand::Read(reading) => {
+                let Reading {
+                    variable,
+                    bits,
+                    step,
+                    gathered,
+                } = reading;
+                let gathered = gathered | gather(bits, plan(bits)[step], byte);
+                let step = step + 1;
+                if step < plan(bits).len() {
+                    *operation = Operation::Reading {
+                        variable,
+                        step,
+                        gathered,
+                    };
+                    return Ok(Answer::Offer(read_access(&description, bits, step)));
+                }
+                *operation = Operation::Idle;
+                Ok(Answer::Done {
+                    value: number(&description.variables[variable], gathered),
+                    accesses: step,
+                })
+            }
+            InHand::Write(writing) => {
+                let Writing {
+                    variable,
+                    bits,
+                    step,
+                    value,
+                } = writing;
+                let access = write_access(&description, bits, step, value, record);
+                record[plan(bits)[step]] = access.byte;
+                let step = step + 1;
+                if step < plan(bits).len() {
+                    *operation = Operation::Writing {
+                        variable,
+                        step,
+                        value,
+                    };
+                    return Ok(Answer::Offer(write_access(
+                        &description,
+                        bits,
+                        step,
+                        value,
+                        record,
+                    )));
+                }
+                marks[variable] = 0;
+                *operation = Operation::Idle;
+                Ok(Answer::Done {
+                    value: number(&description.variables[variable], value),
+                    accesses: step,
+                })
+            }
+        }
+    })())
+}
+
+/// Abandons the operation in hand. A write marks its variable half-written.
+pub fn abandon(
+    tables: Tables,
+    record: &[u8],
+    marks: &mut [u8],
+    operation: &mut Operation,
+) -> Answer {
+    answer((|| {
+        let description = described(tables)?;
+        long_enough(&description, record, marks)?;
+        match in_hand(&description, operation)? {
+            InHand::Nothing => return Err(24),
+            InHand::Read(_) => {}
+            InHand::Write(writing) => marks[writing.variable] = 1,
+        }
+        *operation = Operation::Idle;
+        Ok(Answer::Abandoned)
+    })())
+}
+
+fn answer(answered: Answered) -> Answer {
+    answered.unwrap_or_else(Answer::Refused)
+}
+
+/// Refusal 20.
+fn described(tables: Tables) -> Result<Description, u8> {
+    let Tables {
+        parameters,
+        registers,
+        variables,
+    } = tables;
+    if !sound(parameters, registers, variables) {
+        return Err(20);
+    }
+    Ok(describe(parameters, registers, variables))
+}
+
+/// Refusal 21, of the record and of the marks.
+fn long_enough(description: &Description, record: &[u8], marks: &[u8]) -> Result<(), u8> {
+    if record.len() < description.registers.len() || marks.len() < description.variables.len() {
+        return Err(21);
+    }
+    Ok(())
+}
+
+/// The operation in hand, looked up in the tables.
+enum InHand<'d> {
+    Nothing,
+    Read(Reading<'d>),
+    Write(Writing<'d>),
+}
+
+struct Reading<'d> {
+    variable: usize,
+    bits: &'d Bits,
+    step: usize,
+    gathered: u32,
+}
+
+struct Writing<'d> {
+    variable: usize,
+    bits: &'d Bits,
+    step: usize,
+    value: u32,
+}
+
+/// Refusal 22: the tables have this variable and part, the step is one of its accesses, and the
+/// pattern fits; in a read no bit of a register yet to be read is set.
+fn in_hand<'d>(description: &'d Description, operation: &Operation) -> Result<InHand<'d>, u8> {
+    match *operation {
+        Operation::Idle => Ok(InHand::Nothing),
+        Operation::Reading {
+            variable,
+            step,
+            gathered,
+        } => {
+            let wanted = description.variables.get(variable).ok_or(22)?;
+            let bits = wanted.read.as_ref().ok_or(22)?;
+            let registers = plan(bits);
+            if step >= registers.len() {
+                return Err(22);
+            }
+            let possible = registers[..step].iter().fold(0, |bits_read, &register| {
+                bits_read | gather(bits, register, 0xFF)
+            });
+            if gathered & !possible != 0 {
+                return Err(22);
+            }
+            Ok(InHand::Read(Reading {
+                variable,
+                bits,
+                step,
+                gathered,
+            }))
+        }
+        Operation::Writing {
+            variable,
+            step,
+            value,
+        } => {
+            let wanted = description.variables.get(variable).ok_or(22)?;
+            let bits = wanted.write.as_ref().ok_or(22)?;
+            if step >= plan(bits).len() || u64::from(value) >= 1 << wanted.width {
+                return Err(22);
+            }
+            Ok(InHand::Write(Writing {
+                variable,
+                bits,
+                step,
+                value,
+            }))
+        }
+    }
+}
+
+/// Refusals 22 and 23.
+fn none_in_hand(description: &Description, operation: &Operation) -> Result<(), u8> {
+    match in_hand(description, operation)? {
+        InHand::Nothing => Ok(()),
+        _ => Err(23),
+    }
+}
+
+/// The registers of a part in order of first mention, each once.
+fn plan(bits: &Bits) -> Vec<usize> {
+    let mut registers = Vec::new();
+    for piece in &bits.pieces {
+        if !registers.contains(&piece.register) {
+            registers.push(piece.register);
+        }
+    }
+    registers
+}
+
+/// Where each bit of a part lives, as (register, bit), by its weight in the value.
+fn places(bits: &Bits) -> Vec<(usize, u32)> {
+    let mut places = Vec::new();
+    for piece in bits.pieces.iter().rev() {
+        for bit in piece.low..=piece.high {
+            places.push((piece.register, bit));
+        }
+    }
+    places
+}
+
+/// The bits of the value that a register's byte gives.
+fn gather(bits: &Bits, register: usize, byte: u8) -> u32 {
+    let mut gathered = 0;
+    for (weight, (from, bit)) in places(bits).into_iter().enumerate() {
+        if from == register {
+            gathered |= u32::from(byte >> bit & 1) << weight;
+        }
+    }
+    gathered
+}
+
+/// The byte for a register: the variable's bits from the value, other dot bits from the record, `0`
+/// and `1` from the mask, `*` as 0.
+fn byte_to_write(bits: &Bits, register: usize, port: &Port, value: u32, recorded: u8) -> u8 {
+    let mut byte = recorded & port.mask.dots | port.mask.ones;
+    for (weight, (to, bit)) in places(bits).into_iter().enumerate() {
+        if to == register {
+            byte &= !(1 << bit);
+            byte |= ((value >> weight & 1) as u8) << bit;
+        }
+    }
+    byte
+}
+
+fn read_access(description: &Description, bits: &Bits, step: usize) -> Access {
+    let register = plan(bits)[step];
+    let port = description.registers[register].read.expect("sound tables");
+    Access {
+        direction: Part::Read,
+        parameter: port.parameter,
+        offset: port.offset,
+        byte: 0,
+    }
+}
+
+fn write_access(
+    description: &Description,
+    bits: &Bits,
+    step: usize,
+    value: u32,
+    record: &[u8],
+) -> Access {
+    let register = plan(bits)[step];
+    let port = description.registers[register].write.expect("sound tables");
+    Access {
+        direction: Part::Write,
+        parameter: port.parameter,
+        offset: port.offset,
+        byte: byte_to_write(bits, register, &port, value, record[register]),
+    }
+}
+
+/// The bit pattern of a value of the variable's type; `None` is refusal 27.
+fn pattern(variable: &Variable, value: i64) -> Option<u32> {
+    let size = 1i64 << variable.width;
+    let (least, greatest) = match variable.kind {
+        Kind::Int | Kind::Bool => (0, size - 1),
+        Kind::Signed => (-size / 2, size / 2 - 1),
+    };
+    (least <= value && value <= greatest).then(|| value.rem_euclid(size) as u32)
+}
+
+/// The value of a bit pattern, two's complement where the type is signed.
+fn number(variable: &Variable, pattern: u32) -> i64 {
+    let size = 1i64 << variable.width;
+    let value = i64::from(pattern);
+    if variable.kind == Kind::Signed && value >= size / 2 {
+        value - size
+    } else {
+        value
+    }
+}
