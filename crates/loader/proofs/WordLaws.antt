@@ -1,0 +1,51 @@
+-- Turns of the loops that store words.
+use Prim.Native.Nat.{ℕ, zero, suc, _+_, _≤_, _<_}
+use native.Mathlib.Omega.{arith}
+use native.Mathlib.Nat.{not-suc-le-zero, le-of-suc-le-suc}
+use native.Mathlib.Numerals.{add-one}
+use mathlib.Core.Path.{_≡_, refl, ap, _∙_}
+use mathlib.Core.List.{List, [], _∷_, _++_}
+use lib.ListN.{length, getD, drop, set, replicate}
+use lib.Seq.{drop-cons, sets}
+use Rattle.loader.specs.Words.{written, cleared}
+
+pub drop-all : (n : ℕ) (l : List ℕ) → length l ≤ n → drop n l ≡ []
+drop-all zero [] h = refl
+drop-all zero (x ∷ l) h = absurd (not-suc-le-zero h)
+drop-all (suc n) [] h = refl
+drop-all (suc n) (x ∷ l) h = drop-all n l (le-of-suc-le-suc h)
+
+-- a run of stores: its start, one word more, and the end
+pub written-start : (t : List ℕ) (at : ℕ) (ws : List ℕ) → written t at ws ≡ written t (at + 0) (drop 0 ws)
+written-start t at ws = let q : at ≡ at + 0 = omega arith in ap (λ (n : ℕ). written t n ws) q
+
+pub written-turn : (t : List ℕ) (at k : ℕ) (ws : List ℕ) {s : List ℕ} → k < length ws → s ≡ set t (at + k) (getD ws k 0)
+    → written t (at + k) (drop k ws) ≡ written s (at + (k + 1)) (drop (k + 1) ws)
+unfolding written
+written-turn t at k ws h p =
+    let e : suc (at + k) ≡ at + (k + 1) = omega arith in
+    ap (λ (l : List ℕ). sets t (at + k) l) (drop-cons ws k 0 h)
+    ∙ ap (λ (n : ℕ). sets (set t (at + k) (getD ws k 0)) n (drop (suc k) ws)) e
+    ∙ rw (p, add-one)
+
+pub written-end : (t : List ℕ) (at k : ℕ) (ws : List ℕ) → length ws ≤ k → written t (at + k) (drop k ws) ≡ t
+unfolding written
+written-end t at k ws h = rw (drop-all k ws h)
+
+-- one zero more
+clear-suc : (k : ℕ) (t : List ℕ) → k < length t → set (replicate k 0 ++ drop k t) k 0 ≡ replicate (suc k) 0 ++ drop (suc k) t
+clear-suc zero [] h = absurd (not-suc-le-zero h)
+clear-suc zero (x ∷ t) h = refl
+clear-suc (suc k) [] h = absurd (not-suc-le-zero h)
+clear-suc (suc k) (x ∷ t) h = ap (λ (l : List ℕ). 0 ∷ l) (clear-suc k t (le-of-suc-le-suc h))
+
+pub clear-none : (t : List ℕ) → t ≡ cleared 0 t
+unfolding cleared
+clear-none t = refl
+
+pub clear-turn : (k : ℕ) (t : List ℕ) {s : List ℕ} → k < length t → s ≡ cleared k t → set s k 0 ≡ cleared (k + 1) t
+unfolding cleared
+clear-turn k t h e = rw (e, add-one) (clear-suc k t h)
+
+pub clear-end : {k size : ℕ} (t : List ℕ) {s : List ℕ} → k ≤ size → size ≤ k → s ≡ cleared k t → s ≡ cleared size t
+clear-end {k} {size} t l g e = let q : k ≡ size = omega arith in e ∙ ap (λ (n : ℕ). cleared n t) q

@@ -1,0 +1,5 @@
+-- What loading means: documents 01's sections "Ports, masks and bits" and "Consistency rules and the desk's refusals".
+pub mod Fault
+pub mod Names
+pub mod Words
+pub mod State

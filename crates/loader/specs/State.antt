@@ -1,0 +1,13 @@
+-- How far the judging of declarations has come.
+use Prim.Native.Nat.{ℕ}
+use mathlib.Core.List.{List}
+use Rattle.loader.specs.declared.fault.Fault.{Fault}
+
+-- the device's name (its place and length), the tables so far, and the first rule broken, if one is. A state with a fault stays as it is.
+pub record State : Type 0 where
+  pub place : ℕ
+  pub extent : ℕ
+  pub parameters : List ℕ
+  pub registers : List ℕ
+  pub variables : List ℕ
+  pub fault : Fault

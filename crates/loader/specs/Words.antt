@@ -1,0 +1,17 @@
+-- Words of a lent table.
+use Prim.Native.Nat.{ℕ, min}
+use mathlib.Core.List.{List, _++_}
+use lib.ListN.{drop, replicate}
+use lib.Seq.{sets}
+
+-- a number as a word; one that no word can hold is the greatest (places and counts of a text are far smaller)
+unfoldable pub wordOf : ℕ → ℕ
+wordOf number = min number 4294967295
+
+-- words stored one after the other from word `at` on
+unfoldable pub written : List ℕ → ℕ → List ℕ → List ℕ
+written table at words = sets table at words
+
+-- zeros over a table's stated size; what lies past it is not touched
+unfoldable pub cleared : ℕ → List ℕ → List ℕ
+cleared size table = replicate size 0 ++ drop size table

@@ -1,0 +1,39 @@
+// A rule that a declaration breaks.
+ghost use mathlib.Core.Path.{_≡_};
+ghost use Rattle.loader.specs.Fault.{noFault, faultIf, orElse};
+
+// The number of the rule, 0 where none is broken, and the place that is named with it.
+pub struct Fault {
+    pub number: u32,
+    pub place: usize,
+}
+
+pub fn no_fault() -> Fault
+    ensures { λ r. ⌜ r ≡ noFault ⌝ }
+{
+    Fault {
+        number: 0,
+        place: 0,
+    }
+}
+
+// A rule broken at a place, if the test says so.
+pub fn fault_if(broken: bool, number: u32, place: usize) -> Fault
+    ensures { λ r. ⌜ r ≡ faultIf broken number place ⌝ }
+{
+    if broken {
+        Fault { number, place }
+    } else {
+        Fault {
+            number: 0,
+            place: 0,
+        }
+    }
+}
+
+// The first of two faults that is one. Rules listed by it keep the order of document 01.
+pub fn or_else(first: Fault, second: Fault) -> Fault
+    ensures { λ r. ⌜ r ≡ orElse first second ⌝ }
+{
+    if first.number == 0 { second } else { first }
+}
