@@ -10,6 +10,7 @@ pub mod replay;
 mod rules;
 mod sound;
 pub mod station;
+pub mod stored;
 mod syntax;
 mod tables;
 mod token;

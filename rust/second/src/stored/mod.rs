@@ -1,0 +1,210 @@
+//! The stored cases: a readable list of texts, and of scripts for the station.
+//!
+//! A case that a paper settles carries its answer, and `make_cases` refuses to store anything else.
+//! In a text of such a case `^` stands before the byte that the refusal names.
+
+mod grammar;
+mod order;
+mod rules;
+mod scripts;
+mod sizes;
+mod tokens;
+
+pub use scripts::{scripts, Script};
+
+use crate::{frame, load, replay};
+
+/// Text A of document 01.
+pub const A: &str = "device d(base:bit[8] port){register r=base:bit[8];variable v=r:int(8);}";
+
+/// A text, and the line that the papers give for it.
+#[derive(Clone, Debug)]
+pub struct Case {
+    pub name: String,
+    pub text: Vec<u8>,
+    pub expected: Option<String>,
+}
+
+/// All stored texts, in the order of document 01.
+pub fn texts() -> Vec<Case> {
+    let mut list = List::default();
+    marked(&mut list);
+    tokens::cases(&mut list);
+    grammar::cases(&mut list);
+    sizes::cases(&mut list);
+    order::cases(&mut list);
+    rules::cases(&mut list);
+    list.0
+}
+
+/// Every stored file by its name: what `make_cases` writes. `Err` names the first case whose
+/// answer is not the one that the papers give.
+pub fn files() -> Result<Vec<(String, Vec<u8>)>, String> {
+    let mut framed = Vec::new();
+    let mut verdicts = String::new();
+    let mut names = String::new();
+    for case in texts() {
+        let verdict = load(&case.text).to_string();
+        if case.expected.as_ref().is_some_and(|line| *line != verdict) {
+            return Err(format!("{}: {verdict}, not {:?}", case.name, case.expected));
+        }
+        frame::write(&case.text, &mut framed);
+        verdicts += &format!("{verdict}\n");
+        names += &format!("{}\n", case.name);
+    }
+    let mut files = vec![
+        ("texts.framed".to_string(), framed),
+        ("texts.verdicts".to_string(), verdicts.into_bytes()),
+        ("texts.names".to_string(), names.into_bytes()),
+    ];
+    for script in scripts() {
+        let mut input = Vec::new();
+        frame::write(script.text.as_bytes(), &mut input);
+        let lines = script.lines();
+        input.extend_from_slice(lines.as_bytes());
+        let written = replay::replay(script.text.as_bytes(), lines.as_bytes());
+        for ((call, answer), line) in lines.lines().zip(script.answers()).zip(&written[1..]) {
+            if answer != line {
+                return Err(format!("{}: {call}: {line}, not {answer}", script.name));
+            }
+        }
+        let written: String = written.iter().map(|line| format!("{line}\n")).collect();
+        files.push((format!("scripts/{}.script", script.name), input));
+        files.push((
+            format!("scripts/{}.answers", script.name),
+            written.into_bytes(),
+        ));
+    }
+    Ok(files)
+}
+
+#[derive(Default)]
+struct List(Vec<Case>);
+
+impl List {
+    /// A text with the line that it gets.
+    fn line(&mut self, name: &str, text: impl AsRef<[u8]>, expected: &str) {
+        self.0.push(Case {
+            name: name.to_string(),
+            text: text.as_ref().to_vec(),
+            expected: Some(expected.to_string()),
+        });
+    }
+
+    /// A text that is accepted with these counts.
+    fn accepted(&mut self, name: &str, text: impl AsRef<[u8]>, counts: &str) {
+        self.line(name, text, &format!("accepted {counts}"));
+    }
+
+    /// A text that is refused at its `^`, which is not part of it.
+    fn refused(&mut self, name: &str, number: u8, marked: impl AsRef<[u8]>) {
+        let marked = marked.as_ref();
+        let place = marked
+            .iter()
+            .position(|b| *b == b'^')
+            .unwrap_or_else(|| panic!("{name}: no place is marked"));
+        let text = [&marked[..place], &marked[place + 1..]].concat();
+        self.line(name, text, &format!("refused {number} {place}"));
+    }
+
+    /// A text whose answer is only computed.
+    fn open(&mut self, name: &str, text: impl AsRef<[u8]>) {
+        self.0.push(Case {
+            name: name.to_string(),
+            text: text.as_ref().to_vec(),
+            expected: None,
+        });
+    }
+}
+
+/// A device with parameter b over all offsets, and these declarations.
+fn device(declarations: &str) -> String {
+    format!("device d(b:bit[8] port@{{0..255}}){{{declarations}}}")
+}
+
+/// That device with register r of this definition, and variable v over all of it.
+fn register(definition: &str) -> String {
+    device(&format!("register r={definition};variable v=r:int(8);"))
+}
+
+/// That device with register r at this offset.
+fn offset(expression: &str) -> String {
+    register(&format!("b@{expression}:bit[8]"))
+}
+
+/// That device with a plain register r, these variables, and nothing else.
+fn over_r(variables: &str) -> String {
+    device(&format!("register r=b:bit[8];{variables}"))
+}
+
+fn marked(list: &mut List) {
+    list.accepted("marked: text A", A, "1 1 1");
+    list.line("marked: the empty text", "", "refused 4 0");
+    list.line(
+        "marked: the last byte cut off",
+        &A[..A.len() - 1],
+        "refused 4 70",
+    );
+    let edit = |from: &str, to: &str| {
+        assert!(A.contains(from));
+        A.replacen(from, to, 1)
+    };
+    list.line(
+        "marked: an undeclared register",
+        edit("v=r:", "v=q:"),
+        "refused 7 61",
+    );
+    list.line("marked: int(7)", edit("int(8)", "int(7)"), "refused 12 59");
+    list.line(
+        "marked: a rising range",
+        edit("v=r:", "v=r[0..7]:"),
+        "refused 11 59",
+    );
+    list.line(
+        "marked: a bit unmapped",
+        edit("v=r:int(8)", "v=r[7..1]:int(7)"),
+        "refused 16 36",
+    );
+    list.line(
+        "marked: a bit mapped twice",
+        edit(
+            "variable v=r:int(8);",
+            "variable v=r[7..4]:int(4);variable w=r[4..0]:int(5);",
+        ),
+        "refused 14 85",
+    );
+    let over_0_to_3 = |expression: &str| {
+        format!(
+            "device d(base:bit[8] port@{{0..3}}){{register r=base{expression}:bit[8];variable v=r:int(8);}}"
+        )
+    };
+    list.accepted("marked: 8-3-2", over_0_to_3("@8-3-2"), "1 1 1");
+    list.accepted("marked: (1+2)*1", over_0_to_3("@(1+2)*1"), "1 1 1");
+    list.refused("marked: 4", 8, over_0_to_3("^@4"));
+    list.refused("marked: 1-2", 8, over_0_to_3("^@1-2"));
+    list.refused("marked: 7/0", 8, over_0_to_3("^@7/0"));
+}
+
+/// A text as short as can be with so many parameters, registers and variables: the variables map
+/// one bit each, and every other bit is a star.
+fn counted(parameters: usize, registers: usize, variables: usize) -> String {
+    let heading: Vec<String> = (0..parameters)
+        .map(|i| format!("p{i}:bit[8]port@{{0..63}}"))
+        .collect();
+    let mut text = format!("device d({}){{", heading.join(","));
+    for r in 0..registers {
+        let dots = (0..8)
+            .rev()
+            .map(|bit| if r * 8 + bit < variables { '.' } else { '*' })
+            .collect::<String>();
+        text += &format!("register r{r}=p0@{r},mask '{dots}':bit[8];");
+    }
+    for v in 0..variables {
+        text += &format!(
+            "variable v{v}=r{}[{}]:bool;",
+            v / 8 % registers.max(1),
+            v % 8
+        );
+    }
+    text + "}"
+}
