@@ -13,23 +13,8 @@ use Rattle.station.specs.declared.Access.{Access}
 use Rattle.station.specs.declared.Operation.{Operation}
 use Rattle.station.specs.declared.Operation.the-variants.{Idle, Reading, Writing}
 use Rattle.station.specs.Calls.{State, Outcome, Test, onOffer, refused, unless, checked, readTests, writeTests, confirmed, abandoned, readOn, writeOn, isLast, beginRead, beginWrite, confirm, abandon, gather, registerAt, keeping, writeAccess}
+use Rattle.station.proofs.Refusals.{unless-cases}
 use Rattle.board.specs.Board.{World, Call, BeginRead, BeginWrite, Confirm, Abandon, brought, standing, step}
-
--- an outcome behind tests is a refusal, or what follows when none of them holds
-abbrev pub NoneHolds : List Test → Type 0
-NoneHolds [] = Unit {0}
-NoneHolds (test ∷ tests) = (test .0 ≡ false) × NoneHolds tests
-
-pub unless-cases : (P : Outcome → Type 0) (tests : List Test) (s : State) (o : Outcome)
-    → ((n : ℕ) → P (refused n s)) → (NoneHolds tests → P o) → P (unless tests s o)
-unfolding unless
-unless-cases P [] s o at-refusal passed = passed tt
-unless-cases P (test ∷ tests) s o at-refusal passed =
-    go (test .0) refl (λ first. unless-cases P tests s o at-refusal (λ rest. passed (first, rest)))
-  where
-    go : (b : Bool) → test .0 ≡ b → (test .0 ≡ false → P (unless tests s o)) → P (cond b (refused (test .1) s) (unless tests s o))
-    go true e rest = at-refusal (test .1)
-    go false e rest = rest e
 
 -- the outcome's state has on offer exactly what its answer leaves standing
 abbrev Told : Tables → State → Outcome → Type 0

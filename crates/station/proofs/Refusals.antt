@@ -1,0 +1,125 @@
+-- Each call is refused with the lowest number whose test holds, and with none where no test holds; a refusal leaves everything as it was.
+-- Assumes nothing.
+use Prim.Native.Nat.{ℕ, suc}
+use mathlib.Core.Path.{_≡_, _∙_, refl, sym, ap, subst}
+use mathlib.Core.Bool.{Bool, true, false, cond}
+use mathlib.Core.List.{List, [], _∷_}
+use mathlib.Core.Option.{Option, none, some}
+use lib.IntN.{ℤ}
+use Rattle.tables.specs.declared.Part.the-variants.{Read as reading, Write as writing}
+use Rattle.tables.specs.View.{Tables}
+use Rattle.station.specs.declared.Operation.{Operation}
+use Rattle.station.specs.declared.Answer.the-variants.{Abandoned as Ended}
+use Rattle.station.specs.declared.Outcome as Code
+use Rattle.station.specs.Calls.{Idle, Reading, Writing, State, Outcome, Test, refused, unless, checked, readTests, writeTests, openingTests, confirmed, abandoned, readOn, writeOn, isLast, gather, registerAt, keeping, writeAccess, opening, beginRead, beginWrite, confirm, abandon}
+use Rattle.station.specs.Answers.{refusalOf, firstOf, endTests, Refuses}
+use Rattle.station.specs.Promise.{Meets}
+
+-- ── an outcome behind tests ──
+
+abbrev pub NoneHolds : List Test → Type 0
+NoneHolds [] = Unit {0}
+NoneHolds (test ∷ tests) = (test .0 ≡ false) × NoneHolds tests
+
+-- is a refusal, or what follows when none of them holds
+pub unless-cases : (P : Outcome → Type 0) (tests : List Test) (s : State) (o : Outcome)
+    → ((n : ℕ) → P (refused n s)) → (NoneHolds tests → P o) → P (unless tests s o)
+unfolding unless
+unless-cases P [] s o at-refusal passed = passed tt
+unless-cases P (test ∷ tests) s o at-refusal passed =
+    go (test .0) refl (λ first. unless-cases P tests s o at-refusal (λ rest. passed (first, rest)))
+  where
+    go : (b : Bool) → test .0 ≡ b → (test .0 ≡ false → P (unless tests s o)) → P (cond b (refused (test .1) s) (unless tests s o))
+    go true e rest = at-refusal (test .1)
+    go false e rest = rest e
+
+first-refuses : (tests : List Test) (s : State) (o : Outcome) → refusalOf (o .answer) ≡ none → refusalOf (unless tests s o .answer) ≡ firstOf tests
+unfolding unless firstOf
+first-refuses [] s o passes = passes
+first-refuses (test ∷ tests) s o passes = go (test .0) (first-refuses tests s o passes)
+  where
+    go : (b : Bool) → refusalOf (unless tests s o .answer) ≡ firstOf tests
+        → refusalOf (cond b (refused (test .1) s) (unless tests s o) .answer) ≡ cond b (some (test .1)) (firstOf tests)
+    go true rest = refl
+    go false rest = rest
+
+abbrev IsNone : Option ℕ → Type 0
+IsNone none = Unit {0}
+IsNone (some n) = ⊥
+
+refuses : (tests : List Test) (s : State) (o : Outcome) → refusalOf (o .answer) ≡ none → Refuses tests s (unless tests s o)
+refuses tests s o passes =
+    record {
+      number = first-refuses tests s o passes;
+      leaves = λ n. unless-cases (λ u. refusalOf (u .answer) ≡ some n → u .state ≡ s) tests s o (λ m e. refl)
+          (λ none-holds e. absurd (subst IsNone (sym passes ∙ e) tt));
+    }
+
+-- ── the calls ──
+
+module _ (sound : Tables → Bool) (t : Tables) where
+  pub opening-refuses : (power : List ℕ) (s : State) → Refuses (openingTests sound t power s) s (opening sound t power s)
+  opening-refuses power s = refuses (openingTests sound t power s) s _ refl
+
+  pub begin-read-refuses : (s : State) (v : ℕ) → Refuses (readTests sound t s v) s (beginRead sound t s v)
+  begin-read-refuses s v = refuses (readTests sound t s v) s _ refl
+
+  pub begin-write-refuses : (s : State) (v : ℕ) (z : ℤ) → Refuses (writeTests sound t s v z) s (beginWrite sound t s v z)
+  begin-write-refuses s v z = refuses (writeTests sound t s v z) s _ refl
+
+  read-on : (last : Bool) (s : State) (v n g : ℕ) → refusalOf (readOn last t s v n g .answer) ≡ none
+  read-on true s v n g = refl
+  read-on false s v n g = refl
+
+  write-on : (last : Bool) (s : State) (v n x : ℕ) → refusalOf (writeOn last t s v n x .answer) ≡ none
+  write-on true s v n x = refl
+  write-on false s v n x = refl
+
+  -- 24 is the last test, and on an idle station the outcome
+  confirm-by : (k m : List ℕ) (op : Operation) (byte : ℕ)
+      → let s : State = record { kept = k; marks = m; operation = op } in Refuses (endTests sound t s) s (unless (checked sound t s []) s (confirmed t s op byte))
+  unfolding unless
+  confirm-by k m Idle byte =
+      let s : State = record { kept = k; marks = m; operation = Idle } in
+      refuses (endTests sound t s) s (record { answer = Ended; state = s }) refl
+  confirm-by k m (Reading v n g) byte =
+      let s : State = record { kept = k; marks = m; operation = Reading v n g } in
+      refuses (endTests sound t s) s _ (read-on (isLast t reading v (suc n)) s v (suc n) (gather t v g (registerAt t reading v n) byte))
+  confirm-by k m (Writing v n x) byte =
+      let s : State = record { kept = k; marks = m; operation = Writing v n x } in
+      refuses (endTests sound t s) s _
+      (write-on (isLast t writing v (suc n)) (keeping s (registerAt t writing v n) (writeAccess t s v n x .byte)) v (suc n) x)
+
+  pub confirm-refuses : (s : State) (byte : ℕ) → Refuses (endTests sound t s) s (confirm sound t s byte)
+  confirm-refuses s byte = confirm-by (s .kept) (s .marks) (s .operation) byte
+
+  abandon-by : (k m : List ℕ) (op : Operation)
+      → let s : State = record { kept = k; marks = m; operation = op } in Refuses (endTests sound t s) s (unless (checked sound t s []) s (abandoned s op))
+  unfolding unless
+  abandon-by k m Idle =
+      let s : State = record { kept = k; marks = m; operation = Idle } in
+      refuses (endTests sound t s) s (record { answer = Ended; state = s }) refl
+  abandon-by k m (Reading v n g) =
+      let s : State = record { kept = k; marks = m; operation = Reading v n g } in
+      refuses (endTests sound t s) s _ refl
+  abandon-by k m (Writing v n x) =
+      let s : State = record { kept = k; marks = m; operation = Writing v n x } in
+      refuses (endTests sound t s) s _ refl
+
+  pub abandon-refuses : (s : State) → Refuses (endTests sound t s) s (abandon sound t s)
+  abandon-refuses s = abandon-by (s .kept) (s .marks) (s .operation)
+
+-- ── a call that keeps its promise is refused so, and leaves the record, the marks and the operation as they were ──
+
+pub promised-number : {tests : List Test} {s : State} {o : Outcome} {kept marks : List ℕ} {given : Code.Outcome} → Refuses tests s o → Meets o kept marks given
+    → refusalOf (given .answer) ≡ firstOf tests
+promised-number r m = ap refusalOf (m .answer-is) ∙ r .number
+
+pub promised-leaves : {tests : List Test} {s : State} {o : Outcome} {kept marks : List ℕ} {given : Code.Outcome} → Refuses tests s o → Meets o kept marks given
+    → (n : ℕ) → refusalOf (given .answer) ≡ some n → (kept ≡ s .kept) × (marks ≡ s .marks) × (given .operation ≡ s .operation)
+promised-leaves r m n e =
+    let same = r .leaves n (sym (ap refusalOf (m .answer-is)) ∙ e) in (
+      m .kept-is ∙ ap (λ (s : State). s .kept) same,
+      m .marks-is ∙ ap (λ (s : State). s .marks) same,
+      m .operation-is ∙ ap (λ (s : State). s .operation) same,
+    )

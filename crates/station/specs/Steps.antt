@@ -1,0 +1,78 @@
+-- Demand 2's step order: "Each read and write is exactly the accesses that the definition gives, in its order, and is called done at the last
+-- confirmation and never sooner." The definition is a plan, a list of accesses that is made when the operation begins.
+-- Assumes nothing.
+use Prim.Native.Nat.{ℕ, suc, _≤_, _<_, _^_}
+use mathlib.Core.Path.{_≡_}
+use mathlib.Core.Bool.{true, false, cond}
+use mathlib.Core.List.{List, [], _∷_, _++_, map}
+use mathlib.Core.Option.{none}
+use lib.Dec.{eqb}
+use lib.IntN.{ℤ}
+use lib.ListN.{length, take}
+use Rattle.tables.specs.declared.Part.{Part}
+use Rattle.tables.specs.declared.Part.the-variants.{Read as reading, Write as writing}
+use Rattle.tables.specs.View.{Tables, sound, registerWidth, isDot, isOne, kindOf, size, homeOf, spotOf, registersOf}
+use Rattle.station.specs.Bits.{bit, numberOf}
+use Rattle.station.specs.Values.{encode, decode}
+use Rattle.station.specs.declared.Access.{Access}
+use Rattle.station.specs.declared.Answer.{Answer}
+use Rattle.station.specs.declared.Answer.the-variants.{Offer as Offered, Done}
+use Rattle.station.specs.Calls.{State, Outcome, keptOf, accessAt, writtenByte, confirm}
+use Rattle.station.specs.Answers.{refusalOf}
+
+-- ── the plan ──
+
+-- "Registers are taken in order of first mention in the part, each once."
+abbrev pub plan : Tables → Part → ℕ → (ℕ → ℕ) → List Access
+plan t part v byteFor = map (λ (r : ℕ). accessAt t part r (byteFor r)) (registersOf t part v)
+
+-- a read's bytes are 0; a write's are made from the value and from the record as it is at the begin
+abbrev pub readPlan : Tables → ℕ → List Access
+readPlan t v = plan t reading v (λ r. 0)
+
+abbrev pub writePlan : Tables → State → ℕ → ℤ → List Access
+writePlan t s v z = plan t writing v (writtenByte t (keptOf s) v (encode (size t writing v) z))
+
+-- "The byte written takes the variable's bits from the value, other dot bits from the record, `0` and `1` from the mask, `*` as 0." `writtenByte`
+-- is the byte of register r that does so for the bits x of variable v, and no other byte does
+pub record ByteRight (t : Tables) (kept : ℕ → ℕ) (v x r byte : ℕ) : Type 0 where
+  pub own : (j : ℕ) → j < size t writing v → homeOf t writing v j ≡ r → bit (spotOf t writing v j) byte ≡ bit j x
+  pub other-dots : (b : ℕ) → b < registerWidth t r → isDot t writing r b ≡ true
+      → ((j : ℕ) → j < size t writing v → homeOf t writing v j ≡ r → spotOf t writing v j ≡ b → ⊥) → bit b byte ≡ bit b (kept r)
+  pub from-mask : (b : ℕ) → b < registerWidth t r → isDot t writing r b ≡ false → bit b byte ≡ isOne t writing r b
+  pub narrow : byte < 2 ^ registerWidth t r
+
+-- ── the value of a read ──
+
+-- the byte that the confirmations, one for each of these registers, brought for register r
+abbrev pub broughtFor : List ℕ → List ℕ → ℕ → ℕ
+broughtFor [] bytes r = 0
+broughtFor (s ∷ registers) [] r = 0
+broughtFor (s ∷ registers) (byte ∷ bytes) r = cond (eqb r s) byte (broughtFor registers bytes r)
+
+-- "Reading uses only the variable's bits": each from the byte of its register
+abbrev pub valueRead : Tables → ℕ → List ℕ → ℤ
+valueRead t v bytes =
+    decode (kindOf t v) (size t reading v)
+    (numberOf (size t reading v) (λ j. bit (spotOf t reading v j) (broughtFor (registersOf t reading v) bytes (homeOf t reading v j))))
+
+-- ── the answers ──
+
+-- to a begin, whose outcome this is, and to the confirmations that bring these bytes
+unfoldable pub answersOf : Tables → Outcome → List ℕ → List Answer
+answersOf t o [] = o .answer ∷ []
+answersOf t o (byte ∷ bytes) = o .answer ∷ answersOf t (confirm sound t (o .state) byte) bytes
+
+-- each access of the plan is offered, in its order, and then done is said
+abbrev pub offersThenDone : List Access → ℤ → List Answer
+offersThenDone accesses value = map Offered accesses ++ (Done value (length accesses) ∷ [])
+
+-- a begin that was not refused is answered so, up to each of its confirmations
+pub record GoesByPlan (t : Tables) (begin : Outcome) (accesses : List Access) (value : List ℕ → ℤ) : Type 0 where
+  pub answers : refusalOf (begin .answer) ≡ none → (bytes : List ℕ) → length bytes ≤ length accesses
+      → answersOf t begin bytes ≡ take (suc (length bytes)) (offersThenDone accesses (value bytes))
+  -- with all of them confirmed, that is every answer
+  pub whole : refusalOf (begin .answer) ≡ none → (bytes : List ℕ) → length bytes ≡ length accesses
+      → answersOf t begin bytes ≡ offersThenDone accesses (value bytes)
+  -- "at most 8"
+  pub few : refusalOf (begin .answer) ≡ none → length accesses ≤ 8
