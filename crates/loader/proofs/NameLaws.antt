@@ -14,7 +14,7 @@ use Rattle.token.specs.Bytes.{begins}
 use Rattle.tables.specs.Every.{firstOf, Word}
 use Rattle.tables.proofs.Laws.{first-found, and-right}
 use Rattle.loader.specs.declared.names.Found.the-variants.{At, Nothing}
-use Rattle.loader.specs.Names.{isNamed, heldOf, Held, foundBelow, foundIn}
+use Rattle.loader.specs.Names.{standsAt, isNamed, heldOf, Held, foundBelow, foundIn}
 use Rattle.loader.proofs.WordLaws.{drop-all}
 
 module _ (name text : List ℕ) (k : ℕ) where
@@ -79,17 +79,17 @@ begins-part [] s = refl
 begins-part (a ∷ name) [] = refl
 begins-part (a ∷ name) (x ∷ s) = ap (λ (b : Bool). eqb x a && b) (begins-part name s)
 
-module _ (text table : List ℕ) (at : ℕ) (name : List ℕ) {place extent : ℕ} (p : place ≡ getD table at 0) (l : extent ≡ getD table (at + 1) 0) where
-  pub named-taken : {b : Bool} {part : List ℕ} → (ltb 0 (length name) && eqb extent (length name)) ≡ true → b ≡ begins name part
-      → part ≡ take extent (drop place text) → b ≡ isNamed text table at name
-  unfolding isNamed
-  named-taken {b} {part} t e q =
+module _ (text : List ℕ) (place extent : ℕ) (name : List ℕ) where
+  pub stands-taken : {b : Bool} {part : List ℕ} → (ltb 0 (length name) && eqb extent (length name)) ≡ true → b ≡ begins name part
+      → part ≡ take extent (drop place text) → b ≡ standsAt text place extent name
+  unfolding standsAt
+  stands-taken {b} {part} t e q =
       let f : extent ≡ length name = eqb-true _ _ (and-right (ltb 0 (length name)) (eqb extent (length name)) t) in
-      rw (← p, ← l, t, e, q, f) (begins-part name (drop place text))
+      rw (t, e, q, f) (begins-part name (drop place text))
 
-  pub named-left : (ltb 0 (length name) && eqb extent (length name)) ≡ false → false ≡ isNamed text table at name
-  unfolding isNamed
-  named-left t = rw (← l, t)
+  pub stands-left : (ltb 0 (length name) && eqb extent (length name)) ≡ false → false ≡ standsAt text place extent name
+  unfolding standsAt
+  stands-left t = rw t
 
 -- where an entry of a search stands
 pub strides : (stride i : ℕ) → stride < 128 → i < 4294967296 → stride * i < 549755813888

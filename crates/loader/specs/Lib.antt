@@ -1,5 +1,5 @@
--- What loading means: documents 01's sections "Ports, masks and bits" and "Consistency rules and the desk's refusals".
+-- What loading means: document 01's sections "Ports, masks and bits" and "Consistency rules and the desk's refusals".
 pub mod Fault
+pub mod State
 pub mod Names
 pub mod Words
-pub mod State

@@ -1,7 +1,7 @@
 -- Names. An entry of a table records where its name stands in the text: the place in its first word, the length in its second.
 use Prim.Native.Nat.{ℕ, _+_, _-_, _*_, _/_, _<_, _^_, min}
 use mathlib.Core.Path.{_≡_}
-use mathlib.Core.Bool.{Bool, _&&_}
+use mathlib.Core.Bool.{Bool, true, false, _&&_, _||_, not}
 use mathlib.Core.List.{List}
 use lib.Dec.{eqb, ltb}
 use lib.ListN.{length, getD, take, drop}
@@ -9,6 +9,9 @@ use Rattle.token.specs.Kind.{pick}
 use Rattle.token.specs.Bytes.{begins}
 use Rattle.tables.specs.Every.{firstOf}
 use Rattle.tables.specs.Tables.{countOf}
+use Rattle.loader.specs.declared.fault.Fault.{Fault}
+use Rattle.loader.specs.Fault.{faultIf}
+use Rattle.loader.specs.State.{State}
 use Rattle.loader.specs.declared.names.Found.{Found}
 use Rattle.loader.specs.declared.names.Found.the-variants.{At, Nothing}
 
@@ -16,9 +19,13 @@ use Rattle.loader.specs.declared.names.Found.the-variants.{At, Nothing}
 abbrev pub nameOf : List ℕ → ℕ → ℕ → List ℕ
 nameOf text place extent = take extent (drop place text)
 
--- the entry at word `at` has its recorded name inside the text, equal to `name`; no entry has the empty name
+-- the name recorded by this place and length lies inside the text and is `name`; the empty name is no one's
+unfoldable pub standsAt : List ℕ → ℕ → ℕ → List ℕ → Bool
+standsAt text place extent name = ltb 0 (length name) && eqb extent (length name) && begins name (drop place text)
+
+-- the entry at word `at` of a table is recorded under this name
 unfoldable pub isNamed : List ℕ → List ℕ → ℕ → List ℕ → Bool
-isNamed text table at name = ltb 0 (length name) && eqb (getD table (at + 1) 0) (length name) && begins name (drop (getD table at 0) text)
+isNamed text table at name = standsAt text (getD table at 0) (getD table (at + 1) 0) name
 
 -- how many of the counted entries, each of `stride` words, the table holds whole
 unfoldable pub heldOf : ℕ → List ℕ → ℕ
@@ -46,3 +53,22 @@ registerNamed text registers name = foundIn text registers 15 name
 
 abbrev pub variableNamed : List ℕ → List ℕ → List ℕ → Found
 variableNamed text variables name = foundIn text variables 59 name
+
+unfoldable pub isNothing : Found → Bool
+isNothing (At i) = false
+isNothing Nothing = true
+
+-- the index found, 0 where none is
+unfoldable pub indexOf : Found → ℕ
+indexOf (At i) = i
+indexOf Nothing = 0
+
+-- 6: the name is already declared, by the device, a parameter, a register or a variable
+unfoldable pub isDeclared : List ℕ → State → List ℕ → Bool
+isDeclared text s name =
+    standsAt text (s .place) (s .extent) name || not (isNothing (parameterNamed text (s .parameters) name)) ||
+    not (isNothing (registerNamed text (s .registers) name)) || not (isNothing (variableNamed text (s .variables) name))
+
+-- 6, at the declared name
+unfoldable pub declaredBefore : List ℕ → State → ℕ → ℕ → Fault
+declaredBefore text s place extent = faultIf (isDeclared text s (nameOf text place extent)) 6 place

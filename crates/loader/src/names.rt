@@ -2,7 +2,7 @@
 ghost use mathlib.Core.Path.{_≡_};
 ghost use Prim.Native.Nat.{_≤_, _<_, _^_};
 ghost use Rattle.token.specs.Bytes.{begins};
-ghost use Rattle.loader.specs.Names.{nameOf, Held, isNamed, foundIn, variableNamed};
+ghost use Rattle.loader.specs.Names.{nameOf, Held, standsAt, isNamed, foundIn, variableNamed, isNothing, indexOf};
 use crate::words::least;
 use tables::words::word;
 
@@ -37,18 +37,25 @@ pub fn begins_with(text: &[u8], name: &[u8]) -> bool
     true
 }
 
+// Is this the name that stands at a place of the text?
+pub fn stands_at(text: &[u8], place: usize, extent: usize, name: &[u8]) -> bool
+    ensures { λ r. ⌜ r ≡ standsAt (now (text .entry)) place extent (now (name .entry)) ⌝ }
+{
+    if (0 < name.len()) & (extent == name.len()) {
+        begins_with(name_of(text, place, extent), name)
+    } else {
+        false
+    }
+}
+
 // Is the entry at a word of a table recorded under this name?
 pub fn is_named(text: &[u8], table: &[u32], at: usize, name: &[u8]) -> bool
     requires { ⌜ at < 2 ^ 40 ⌝ }
     ensures { λ r. ⌜ r ≡ isNamed (now (text .entry)) (now (table .entry)) at (now (name .entry)) ⌝ }
 {
     let place = word(table, at);
-    let length = word(table, at + 1);
-    if (0 < name.len()) & (length == name.len()) {
-        begins_with(name_of(text, place, length), name)
-    } else {
-        false
-    }
+    let extent = word(table, at + 1);
+    stands_at(text, place, extent, name)
 }
 
 // How many of the counted entries a table holds whole: a broken count must not make a search long.
@@ -85,4 +92,23 @@ pub fn lookup(text: &[u8], variables: &[u32], name: &[u8]) -> Found
     ensures { λ r. ⌜ r ≡ variableNamed (now (text .entry)) (now (variables .entry)) (now (name .entry)) ⌝ }
 {
     find(text, variables, 59, name)
+}
+
+pub fn is_nothing(found: Found) -> bool
+    ensures { λ r. ⌜ r ≡ isNothing found ⌝ }
+{
+    match found {
+        Found::At(_) => false,
+        Found::Nothing => true,
+    }
+}
+
+// The index found, 0 where none is.
+pub fn index_of(found: Found) -> usize
+    ensures { λ r. ⌜ r ≡ indexOf found ⌝ }
+{
+    match found {
+        Found::At(index) => index,
+        Found::Nothing => 0,
+    }
 }
