@@ -7,9 +7,9 @@ use mathlib.Core.Option.{Option, none, some}
 use Rattle.token.specs.Bytes.{bytes, same, begins, oneOf, within, firstTrue, runFrom}
 use Rattle.token.specs.Gap.{isBlank, gapFrom}
 use Rattle.token.specs.Word.{isLetter, isNameByte, reserved, wordOf}
-use Rattle.token.specs.Number.{digitOf, isDigit, valueFrom, prefixed, digitsAt}
-use Rattle.token.specs.Sign.{longSigns, isSignByte, longSign, numberOf, signOf, signWidth}
-use Rattle.token.specs.Scan.{isBit, badAt, nameToken, nameAt, numberToken, numberAt, bitsToken, bitsAt, signToken, signAt, tokenAt, scanAt}
+use Rattle.token.specs.Number.{digitOf, isDigit, valueFrom, prefixed, digitsOf}
+use Rattle.token.specs.Sign.{longSigns, isSignByte, longSign, signNumber, longestSign, signWidth}
+use Rattle.token.specs.Scan.{isBit, badToken, nameToken, nameFrom, numberToken, numberFrom, bitsToken, bitsFrom, signToken, signHere, signFrom, tokenBy, tokenFrom, scanFrom, scanRest, scanAt}
 use Rattle.syntax.specs.Sizes.{ended, closed, asksOperand, onward, passesAt, nothingYet, tallied, longName, tooMuch, passedIn, tokensWith, tokensFrom, passedAt}
 
 -- so many times the bytes
@@ -36,7 +36,7 @@ pub headings :
     ∷ ((1, "device d(b:bit[8] port@{") ∷ (15, "1..2,") ∷ (1, "3},c:bit[8] port@{") ∷ (15, "1,") ∷ (1, "1}") ∷ [])
     ∷ ((1, "device d(b:bit[8] port@{") ∷ (16, "1..2,") ∷ (1, "3},c:bit[8] port@{") ∷ (15, "1,") ∷ (1, "1}") ∷ []) ∷ [])
     ≡ none ∷ some 7 ∷ none ∷ some 233 ∷ none ∷ some 104 ∷ []
-unfolding passed build times scanAt tokenAt nameAt nameToken numberAt numberToken bitsAt bitsToken signAt signToken badAt isBit gapFrom isBlank isLetter isNameByte reserved wordOf digitOf isDigit valueFrom prefixed digitsAt longSigns isSignByte longSign numberOf signOf signWidth same begins oneOf within firstTrue runFrom ended closed asksOperand onward passesAt nothingYet tallied longName tooMuch passedIn tokensWith tokensFrom passedAt
+unfolding passed build times scanAt scanRest scanFrom tokenFrom tokenBy nameFrom nameToken numberFrom numberToken bitsFrom bitsToken signFrom signHere signToken badToken isBit gapFrom isBlank isLetter isNameByte reserved wordOf digitOf isDigit valueFrom prefixed digitsOf longSigns isSignByte longSign signNumber longestSign signWidth same begins oneOf within firstTrue runFrom ended closed asksOperand onward passesAt nothingYet tallied longName tooMuch passedIn tokensWith tokensFrom passedAt
 headings = refl
 
 abbrev upToVariable : ℕ × String
@@ -52,7 +52,7 @@ pub pieces :
     ∷ (upToVariable ∷ (1, "r[7..4,2]#r#r[1,0,1,0]#r#r:int(8);") ∷ [])
     ∷ (upToVariable ∷ (1, "read ") ∷ (7, "r#") ∷ (1, "r,write ") ∷ (7, "r#") ∷ (1, "r,volatile,write trigger:bool;") ∷ []) ∷ [])
     ≡ none ∷ some 51 ∷ none ∷ some 53 ∷ none ∷ some 60 ∷ none ∷ []
-unfolding passed build times scanAt tokenAt nameAt nameToken numberAt numberToken bitsAt bitsToken signAt signToken badAt isBit gapFrom isBlank isLetter isNameByte reserved wordOf digitOf isDigit valueFrom prefixed digitsAt longSigns isSignByte longSign numberOf signOf signWidth same begins oneOf within firstTrue runFrom ended closed asksOperand onward passesAt nothingYet tallied longName tooMuch passedIn tokensWith tokensFrom passedAt
+unfolding passed build times scanAt scanRest scanFrom tokenFrom tokenBy nameFrom nameToken numberFrom numberToken bitsFrom bitsToken signFrom signHere signToken badToken isBit gapFrom isBlank isLetter isNameByte reserved wordOf digitOf isDigit valueFrom prefixed digitsOf longSigns isSignByte longSign signNumber longestSign signWidth same begins oneOf within firstTrue runFrom ended closed asksOperand onward passesAt nothingYet tallied longName tooMuch passedIn tokensWith tokensFrom passedAt
 pieces = refl
 
 abbrev upToOffset : ℕ × String
@@ -69,5 +69,5 @@ pub depths :
     ∷ (upToOffset ∷ (20, "(1)+-(1)*-1-") ∷ (1, "1:bit[8];") ∷ [])
     ∷ (upToOffset ∷ (17, "(") ∷ []) ∷ [])
     ≡ none ∷ some 53 ∷ none ∷ some 53 ∷ none ∷ some 55 ∷ none ∷ some 53 ∷ []
-unfolding passed build times scanAt tokenAt nameAt nameToken numberAt numberToken bitsAt bitsToken signAt signToken badAt isBit gapFrom isBlank isLetter isNameByte reserved wordOf digitOf isDigit valueFrom prefixed digitsAt longSigns isSignByte longSign numberOf signOf signWidth same begins oneOf within firstTrue runFrom ended closed asksOperand onward passesAt nothingYet tallied longName tooMuch passedIn tokensWith tokensFrom passedAt
+unfolding passed build times scanAt scanRest scanFrom tokenFrom tokenBy nameFrom nameToken numberFrom numberToken bitsFrom bitsToken signFrom signHere signToken badToken isBit gapFrom isBlank isLetter isNameByte reserved wordOf digitOf isDigit valueFrom prefixed digitsOf longSigns isSignByte longSign signNumber longestSign signWidth same begins oneOf within firstTrue runFrom ended closed asksOperand onward passesAt nothingYet tallied longName tooMuch passedIn tokensWith tokensFrom passedAt
 depths = refl
