@@ -5,6 +5,7 @@
 
 mod description;
 pub mod frame;
+pub mod generate;
 mod load;
 pub mod replay;
 mod rules;
@@ -26,6 +27,6 @@ pub use station::{
 };
 pub use syntax::{DEPTH, NAME_BYTES, PARAMETERS, PIECES, RANGES, REGISTERS, VARIABLES};
 pub use tables::{
-    load_into, lookup, tables, Loaded, PARAMETER_WORDS, REGISTER_WORDS, VARIABLE_WORDS,
+    describe, load_into, lookup, tables, Loaded, PARAMETER_WORDS, REGISTER_WORDS, VARIABLE_WORDS,
 };
 pub use token::RESERVED;

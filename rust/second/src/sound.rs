@@ -192,45 +192,40 @@ fn bit_places(bits: &[u32]) -> Vec<(u32, u32)> {
     places
 }
 
-/// The bits that a variable maps in a part, one byte for each register.
-fn bit_map(variable: &[u32], part: usize) -> [u8; REGISTERS] {
-    let mut map = [0; REGISTERS];
-    for (register, bit) in bit_places(part_of(variable, part)) {
-        map[register as usize] |= 1 << bit;
-    }
-    map
+/// The bits that each variable maps in a part.
+fn mapped(part: usize, variables: &[&[u32]]) -> Vec<Vec<(u32, u32)>> {
+    let of = |variable: &&[u32]| bit_places(part_of(variable, part));
+    variables.iter().map(of).collect()
 }
 
 /// Rule 14.
 fn bits_mapped_once(part: usize, variables: &[&[u32]]) -> bool {
-    let maps: Vec<_> = variables.iter().map(|v| bit_map(v, part)).collect();
-    pairs(maps.len()).all(|(one, other)| {
-        (0..REGISTERS).all(|register| maps[one][register] & maps[other][register] == 0)
-    })
+    let mapped = mapped(part, variables);
+    let mut all: Vec<_> = mapped.iter().flatten().collect();
+    let count = all.len();
+    all.sort();
+    all.dedup();
+    all.len() == count
 }
 
 /// Rule 15.
 fn triggers_alone(part: usize, variables: &[&[u32]]) -> bool {
-    let maps: Vec<_> = variables.iter().map(|v| bit_map(v, part)).collect();
-    let trigger = |index: usize| part_of(variables[index], part)[1] == 1;
-    pairs(maps.len()).all(|(one, other)| {
-        !(trigger(one) || trigger(other))
-            || (0..REGISTERS).all(|register| maps[one][register] == 0 || maps[other][register] == 0)
+    let mapped = mapped(part, variables);
+    let holds = |index: usize, register: u32| mapped[index].iter().any(|place| place.0 == register);
+    (0..variables.len()).all(|one| {
+        part_of(variables[one], part)[1] == 0
+            || (0..variables.len())
+                .all(|other| one == other || mapped[one].iter().all(|place| !holds(other, place.0)))
     })
 }
 
 /// Rule 16.
 fn dots_mapped(part: usize, registers: &[&[u32]], variables: &[&[u32]]) -> bool {
-    let maps: Vec<_> = variables.iter().map(|v| bit_map(v, part)).collect();
-    registers.iter().enumerate().all(|(index, register)| {
-        let dots = port(register, part)[3];
-        (0..8).all(|bit| dots >> bit & 1 == 0 || maps.iter().any(|map| map[index] >> bit & 1 == 1))
+    let mapped = mapped(part, variables).concat();
+    (0..registers.len()).all(|register| {
+        let dots = port(registers[register], part)[3];
+        (0..8).all(|bit| dots >> bit & 1 == 0 || mapped.contains(&(register as u32, bit)))
     })
-}
-
-/// All pairs of numbers below `count`, the lower one first.
-fn pairs(count: usize) -> impl Iterator<Item = (usize, usize)> {
-    (0..count).flat_map(move |other| (0..other).map(move |one| (one, other)))
 }
 
 #[cfg(test)]

@@ -264,7 +264,7 @@ fn described(tables: Tables) -> Result<Description, u8> {
     if !sound(parameters, registers, variables) {
         return Err(20);
     }
-    Ok(describe(parameters, registers, variables))
+    describe(parameters, registers, variables).ok_or(20)
 }
 
 /// Refusal 21, of the record and of the marks.

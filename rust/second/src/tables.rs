@@ -119,8 +119,12 @@ fn write_bits(bits: &Option<Bits>, words: &mut [u32]) {
     }
 }
 
-/// The description that sound tables hold.
-pub(crate) fn describe(parameters: &[u32], registers: &[u32], variables: &[u32]) -> Description {
+/// The description that tables hold; `None` if one is shorter than its stated size. Tables that are
+/// not sound give one as well, which may name parameters and registers that are not there.
+pub fn describe(parameters: &[u32], registers: &[u32], variables: &[u32]) -> Option<Description> {
+    let parameters = parameters.get(..PARAMETER_WORDS)?;
+    let registers = registers.get(..REGISTER_WORDS)?;
+    let variables = variables.get(..VARIABLE_WORDS)?;
     let entries = |table: &[u32], words: usize| -> Vec<Vec<u32>> {
         table[1..]
             .chunks_exact(words)
@@ -128,7 +132,7 @@ pub(crate) fn describe(parameters: &[u32], registers: &[u32], variables: &[u32])
             .map(<[u32]>::to_vec)
             .collect()
     };
-    Description {
+    Some(Description {
         parameters: entries(parameters, PARAMETER_ENTRY)
             .iter()
             .map(|entry| Parameter {
@@ -168,7 +172,7 @@ pub(crate) fn describe(parameters: &[u32], registers: &[u32], variables: &[u32])
                 write: read_bits(&entry[5 + BITS_ENTRY..]),
             })
             .collect(),
-    }
+    })
 }
 
 fn read_name(entry: &[u32]) -> Name {
@@ -352,7 +356,11 @@ mod tests {
             panic!()
         };
         let (parameters, registers, variables) = tables(&description);
-        assert_eq!(describe(&parameters, &registers, &variables), description);
+        assert_eq!(
+            describe(&parameters, &registers, &variables),
+            Some(description)
+        );
+        assert_eq!(describe(&parameters[1..], &registers, &variables), None);
     }
 
     #[test]

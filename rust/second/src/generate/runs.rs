@@ -1,0 +1,223 @@
+//! Runs of calls over a text: good ones, refused ones, out of order, and abandoned at every step.
+
+use super::Random;
+use crate::description::{Description, Kind, Part, Variable, PARTS};
+use crate::load::{load, Verdict};
+use crate::replay::{Call, Session};
+use crate::station::Operation;
+
+/// So many calls over an accepted text.
+pub fn run(random: &mut Random, text: &[u8], length: usize) -> Vec<Call> {
+    let Verdict::Accepted { description } = load(text) else {
+        return Vec::new();
+    };
+    let Ok(mut session) = Session::new(text) else {
+        return Vec::new();
+    };
+    let mut calls = Vec::new();
+    let (mut short_record, mut short_marks, mut stuck) = (false, false, false);
+    while calls.len() < length {
+        // What was lent short is mostly lent whole again soon, and an operation that the tables
+        // forbid is mostly let go.
+        let call = if stuck && random.one_in(2) {
+            match random.one_in(2) {
+                true => Call::Hold(Operation::Idle),
+                false => open(random, &description),
+            }
+        } else if short_record && random.one_in(2) {
+            Call::LendRecord(None)
+        } else if short_marks && random.one_in(2) {
+            Call::LendMarks(None)
+        } else {
+            next(random, &description, text, &session, calls.is_empty())
+        };
+        match call {
+            Call::LendRecord(count) => short_record = count.is_some(),
+            Call::LendMarks(count) => short_marks = count.is_some(),
+            _ => {}
+        }
+        stuck = session.perform(&call) == "refused 22";
+        calls.push(call);
+    }
+    calls
+}
+
+fn next(
+    random: &mut Random,
+    description: &Description,
+    text: &[u8],
+    session: &Session,
+    first: bool,
+) -> Call {
+    if first && !random.one_in(10) {
+        return open(random, description);
+    }
+    if session.operation() != Operation::Idle && !random.one_in(6) {
+        return match random.below(5) {
+            0 => Call::Abandon,
+            _ => Call::Confirm(random.byte()),
+        };
+    }
+    match random.below(100) {
+        0..=34 => good_write(random, description),
+        35..=64 => read(random, description),
+        65..=71 => bad_write(random, description),
+        72..=75 => Call::Confirm(random.byte()),
+        76..=79 => Call::Abandon,
+        80..=83 => open(random, description),
+        84..=87 => lookup(random, description, text),
+        88..=89 => Call::LendRecord(Some(random.below(description.registers.len() + 2))),
+        90..=91 => Call::LendMarks(Some(random.below(description.variables.len() + 2))),
+        92..=95 => Call::Hold(held(random, description)),
+        _ => Call::State,
+    }
+}
+
+/// Mostly as many bytes as there are registers.
+fn open(random: &mut Random, description: &Description) -> Call {
+    let count = description.registers.len();
+    let count = match random.below(12) {
+        0 => random.below(count),
+        1 => count + random.below(3),
+        _ => count,
+    };
+    Call::Open((0..count).map(|_| random.byte()).collect())
+}
+
+fn some_variable(random: &mut Random, description: &Description) -> usize {
+    match random.below(30) {
+        0 => description.variables.len(),
+        1 => *random.pick(&[127, 128, 129, 1000, u32::MAX as usize]),
+        _ => random.below(description.variables.len()),
+    }
+}
+
+fn read(random: &mut Random, description: &Description) -> Call {
+    Call::Read(some_variable(random, description))
+}
+
+/// The least and the greatest value of a variable's type.
+fn bounds(variable: &Variable) -> (i64, i64) {
+    let size = 1i64 << variable.width;
+    match variable.kind {
+        Kind::Signed => (-size / 2, size / 2 - 1),
+        Kind::Int | Kind::Bool => (0, size - 1),
+    }
+}
+
+fn good_write(random: &mut Random, description: &Description) -> Call {
+    let index = some_variable(random, description);
+    let Some(variable) = description.variables.get(index) else {
+        return Call::Write(index, 0);
+    };
+    let (least, greatest) = bounds(variable);
+    let value = match random.below(6) {
+        0 => least,
+        1 => greatest,
+        _ => least + (random.number() % (greatest - least + 1) as u64) as i64,
+    };
+    Call::Write(index, value)
+}
+
+fn bad_write(random: &mut Random, description: &Description) -> Call {
+    let index = some_variable(random, description);
+    let (least, greatest) = description.variables.get(index).map_or((0, 0), bounds);
+    let value = match random.below(5) {
+        0 => least - 1,
+        1 => greatest + 1,
+        2 => i64::MIN,
+        3 => i64::MAX,
+        _ => random.number() as i64,
+    };
+    Call::Write(index, value)
+}
+
+fn lookup(random: &mut Random, description: &Description, text: &[u8]) -> Call {
+    let mut names: Vec<&[u8]> = Vec::new();
+    names.extend(description.parameters.iter().map(|p| p.name.of(text)));
+    names.extend(description.registers.iter().map(|r| r.name.of(text)));
+    for variable in &description.variables {
+        names.extend([variable.name.of(text); 2]);
+    }
+    names.push(b"undeclared");
+    let mut name = random.pick(&names).to_vec();
+    match random.below(12) {
+        0 => name.push(b'x'),
+        1 => {
+            name.pop();
+        }
+        _ => {}
+    }
+    Call::Lookup(name)
+}
+
+/// An operation that the tables may allow or not.
+fn held(random: &mut Random, description: &Description) -> Operation {
+    let variable = some_variable(random, description);
+    let width = description.variables.get(variable).map_or(8, |v| v.width);
+    let step = random.below(4);
+    let pattern = match random.below(4) {
+        0 => 0,
+        1 => random.number() as u32,
+        _ => (random.number() % (1u64 << width)) as u32,
+    };
+    match random.below(7) {
+        0 => Operation::Idle,
+        1..=3 => Operation::Reading {
+            variable,
+            step,
+            gathered: pattern,
+        },
+        _ => Operation::Writing {
+            variable,
+            step,
+            value: pattern,
+        },
+    }
+}
+
+/// Each part of each variable: begun and abandoned after every number of confirmations, then done.
+pub fn every_step(random: &mut Random, text: &[u8]) -> Vec<Call> {
+    let Verdict::Accepted { description } = load(text) else {
+        return Vec::new();
+    };
+    let bytes = |random: &mut Random| {
+        description
+            .registers
+            .iter()
+            .map(|_| random.byte())
+            .collect()
+    };
+    let mut calls = vec![Call::Open(bytes(random))];
+    for (index, variable) in description.variables.iter().enumerate() {
+        let (least, greatest) = bounds(variable);
+        for part in PARTS {
+            let Some(bits) = variable.part(part) else {
+                continue;
+            };
+            let mut registers: Vec<usize> =
+                bits.pieces.iter().map(|piece| piece.register).collect();
+            registers.sort_unstable();
+            registers.dedup();
+            for confirmations in 0..=registers.len() {
+                let value = least + (random.number() % (greatest - least + 1) as u64) as i64;
+                calls.push(match part {
+                    Part::Read => Call::Read(index),
+                    Part::Write => Call::Write(index, value),
+                });
+                calls.extend((0..confirmations).map(|_| Call::Confirm(random.byte())));
+                calls.push(Call::State);
+                if confirmations < registers.len() {
+                    calls.push(Call::Abandon);
+                    calls.push(Call::Read(index));
+                    calls.push(Call::State);
+                    // A read of a variable that is not half-written is in hand now.
+                    if part == Part::Read {
+                        calls.push(Call::Abandon);
+                    }
+                }
+            }
+        }
+    }
+    calls
+}
