@@ -17,14 +17,14 @@ use borrow.Author.Tests.{eqb-true, eqb-false, le-leb}
 use Rattle.tables.specs.declared.Part.the-variants.{Read as reading, Write as writing}
 use Rattle.tables.specs.View.{Tables, sound, Plain, Consistent, Place, registerCount, registerWidth, variableCount, kindOf, size, homeOf, spotOf, registersOf, Among, isAmong}
 use Rattle.tables.proofs.Consistent.{sound-wide}
-use Rattle.station.specs.Bits.{bit, numberOf}
-use Rattle.station.specs.Values.{encode, decode}
+use Rattle.bits.specs.Bits.{bit, numberOf}
+use Rattle.bits.specs.Values.{encode, decode}
 use Rattle.station.specs.declared.Access.{Access}
 use Rattle.station.specs.declared.Operation.{Operation}
 use Rattle.station.specs.declared.Operation.the-variants.{Idle, Reading, Writing}
 use Rattle.station.specs.declared.Answer.the-variants.{Opened}
 use Rattle.station.specs.Calls.{State, unless, isLong, isAllowed, onOffer, opening, registerAt, keptOf, writtenByte, stepsOf}
-use Rattle.station.proofs.BitLaws.{number-same, number-bits, number-lt, bit-number}
+use Rattle.bits.proofs.BitLaws.{number-same, number-bits, number-lt, bit-number}
 use Rattle.station.proofs.Cases.{either, true-and, or-false, getD-among}
 use Rattle.station.proofs.ByteLaws.{byte-own}
 use Rattle.station.proofs.Registers.{same-size, same-place}

@@ -6,12 +6,12 @@ use mathlib.Core.Bool.{Bool, true, false, cond, _&&_, _||_}
 use lib.Dec.{eqb}
 use lib.ListN.{take}
 use borrow.Author.Tests.{eqb-true, eq-eqb, ltb-true, lt-ltb}
-use Rattle.station.specs.Bits.{bit}
+use Rattle.bits.specs.Bits.{bit}
 use Rattle.tables.specs.declared.Part.{Part}
 use Rattle.tables.specs.declared.Part.the-variants.{Read as reading, Write as writing}
 use Rattle.tables.specs.View.{Tables, variableCount, variableHas, size, homeOf, registersOf, isAmong}
 use Rattle.station.specs.Calls.{Idle, Reading, Writing, isUnderway, isRead, isGathered, gatheredBit, isAllowed, gather, registerAt, stepsOf}
-use Rattle.station.proofs.BitLaws.{bit-number, number-lt, number-same, number-zero}
+use Rattle.bits.proofs.BitLaws.{bit-number, number-lt, number-same, number-zero}
 use Rattle.station.proofs.Cases.{and-true, true-and, isAmong-take}
 
 module _ (t : Tables) where

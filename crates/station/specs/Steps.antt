@@ -12,8 +12,8 @@ use lib.ListN.{length, take}
 use Rattle.tables.specs.declared.Part.{Part}
 use Rattle.tables.specs.declared.Part.the-variants.{Read as reading, Write as writing}
 use Rattle.tables.specs.View.{Tables, sound, registerWidth, isDot, isOne, kindOf, size, homeOf, spotOf, registersOf}
-use Rattle.station.specs.Bits.{bit, numberOf}
-use Rattle.station.specs.Values.{encode, decode}
+use Rattle.bits.specs.Bits.{bit, numberOf}
+use Rattle.bits.specs.Values.{encode, decode}
 use Rattle.station.specs.declared.Access.{Access}
 use Rattle.station.specs.declared.Answer.{Answer}
 use Rattle.station.specs.declared.Answer.the-variants.{Offer as Offered, Done}

@@ -4,6 +4,7 @@ use mathlib.Core.Path.{_≡_, refl}
 use mathlib.Core.Bool.{true, false}
 use mathlib.Core.List.{List, _∷_, _++_}
 use lib.ListN.{replicate, set}
+use Rattle.bits.specs.Bits.{bit}
 use Rattle.tables.specs.Every.{every, some, zerosFront}
 use Rattle.tables.specs.Marks.{joined, downFrom, has, meets, distinct}
 use Rattle.tables.specs.Rules.{rangesFit, parameterFault, parameterShape, offsetIn, placed, placeTaken, registerFault, registerPartShape, registerShape, onDots, pieceFits, partMaps, widthFits, typeFits, volatileFits, ownFault, variablePartShape, variableShape, mappedBefore, triggerShared, covered}
@@ -23,10 +24,10 @@ pub variablesA : List ℕ
 variablesA = 1 ∷ 59 ∷ 1 ∷ 0 ∷ 8 ∷ 0 ∷ wholeRegister ++ wholeRegister ++ replicate 7493 0
 
 pub sound-computes : sound parametersA registersA variablesA ≡ true
-unfolding sound tablesFit restZero shapesFit rulesKept parametersA registersA variablesA every some zerosFront parameterShape parameterFault rangesFit registerShape registerPartShape registerFault placed offsetIn placeTaken variableShape variablePartShape variableFault ownFault partMaps pieceFits onDots joined downFrom distinct has meets typeFits widthFits volatileFits mappedBefore triggerShared covered
+unfolding bit sound tablesFit restZero shapesFit rulesKept parametersA registersA variablesA every some zerosFront parameterShape parameterFault rangesFit registerShape registerPartShape registerFault placed offsetIn placeTaken variableShape variablePartShape variableFault ownFault partMaps pieceFits onDots joined downFrom distinct has meets typeFits widthFits volatileFits mappedBefore triggerShared covered
 sound-computes = refl
 
 -- one word that should be zero, the last of the variables, makes them unsound
 pub last-word-counts : sound parametersA registersA (set variablesA 7552 1) ≡ false
-unfolding sound tablesFit restZero shapesFit rulesKept parametersA registersA variablesA every some zerosFront parameterShape parameterFault rangesFit registerShape registerPartShape registerFault placed offsetIn placeTaken variableShape variablePartShape variableFault ownFault partMaps pieceFits onDots joined downFrom distinct has meets typeFits widthFits volatileFits mappedBefore triggerShared covered
+unfolding bit sound tablesFit restZero shapesFit rulesKept parametersA registersA variablesA every some zerosFront parameterShape parameterFault rangesFit registerShape registerPartShape registerFault placed offsetIn placeTaken variableShape variablePartShape variableFault ownFault partMaps pieceFits onDots joined downFrom distinct has meets typeFits widthFits volatileFits mappedBefore triggerShared covered
 last-word-counts = refl

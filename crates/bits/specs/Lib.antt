@@ -1,0 +1,3 @@
+-- The definitions that the contracts of `bits` cite.
+pub mod Bits
+pub mod Values
