@@ -5,6 +5,7 @@ use mathlib.Core.Path.{_≡_, refl}
 use mathlib.Core.Bool.{Bool, true, false}
 use mathlib.Core.List.{List, [], _∷_, _++_}
 use lib.ListN.{length, replicate}
+use Rattle.bits.specs.Bits.{bit}
 use Rattle.tables.specs.Every.{every, some, zerosFront}
 use Rattle.tables.specs.Marks.{joined, downFrom, has, meets, distinct}
 use Rattle.tables.specs.Rules.{rangesFit, parameterFault, parameterShape, offsetIn, placed, placeTaken, registerFault, registerPartShape, registerShape, onDots, pieceFits, partMaps, widthFits, typeFits, volatileFits, ownFault, variablePartShape, variableShape, mappedBefore, triggerShared, covered}
@@ -61,5 +62,5 @@ scoring =
     }
 
 pub scoring-sound : sound scoring ≡ true
-unfolding sound S.sound scoring tablesFit restZero zerosFront shapesFit rulesKept every some parameterShape registerShape registerPartShape variableShape variablePartShape parameterFault rangesFit registerFault placed offsetIn placeTaken variableFault ownFault partMaps pieceFits onDots joined downFrom distinct has meets typeFits widthFits volatileFits mappedBefore triggerShared covered
+unfolding bit sound S.sound scoring tablesFit restZero zerosFront shapesFit rulesKept every some parameterShape registerShape registerPartShape variableShape variablePartShape parameterFault rangesFit registerFault placed offsetIn placeTaken variableFault ownFault partMaps pieceFits onDots joined downFrom distinct has meets typeFits widthFits volatileFits mappedBefore triggerShared covered
 scoring-sound = refl
