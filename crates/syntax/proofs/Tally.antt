@@ -10,7 +10,7 @@ use mathlib.Core.List.{List, [], _∷_}
 use mathlib.Core.Option.{Option, none, some, Option·none-ne-some, Option·some-injective}
 use lib.Dec.{eqb, ltb}
 use lib.ListN.{length}
-use borrow.Author.Tests.{eqb-true}
+use borrow.Author.Tests.{eqb-true, eq-eqb}
 use Rattle.token.specs.declared.Token.{Token}
 use Rattle.token.specs.declared.Token.the-variants.{Name, Word, Number, Bits, Sign, End, Bad}
 use Rattle.token.specs.Scan.{scanAt}
@@ -25,6 +25,10 @@ use Rattle.syntax.specs.Reader.{unexpected, sizedName, nameIn, seenAt, p
 use Rattle.syntax.specs.Parameter.{tooMany}
 use Rattle.syntax.proofs.Follows.{number-is}
 use Rattle.syntax.specs.Sizes.{Tally, tallied, longName, tooMuch, passedIn, tokensWith, tokensFrom}
+
+pub or-true : (b : Bool) → (b || true) ≡ true
+or-true true = refl
+or-true false = refl
 
 module _ (text : List ℕ) where
   -- ---- the tokens from a place on
@@ -165,7 +169,7 @@ module _ (text : List ℕ) where
     agrees-five c d at e h a = inl (refl, sym a ∙ passed-here c at e h)
 
     -- a token of a kind is none but a name too long, and is not the end
-    goes : (t : Token) (k : ℕ) → eqb 255 k ≡ false → eqb (kindOf t) k ≡ true → goesOn t ≡ true
+    pub goes : (t : Token) (k : ℕ) → eqb 255 k ≡ false → eqb (kindOf t) k ≡ true → goesOn t ≡ true
     goes (Name p n) k e i = refl
     goes (Word p n) k e i = refl
     goes (Number p n) k e i = refl
@@ -208,14 +212,14 @@ module _ (text : List ℕ) where
       agrees-past (Refused n p) i a = clash (eqb 255 k) i end
       agrees-past (At at) i a = on-kind at i a
 
+    -- the same, by the kind of the token at a place
+    pub agrees-kind : (k : ℕ) (c : Tally) → eqb 255 k ≡ false → eqb 1 k ≡ false → tooMuch c k ≡ false → (at : ℕ) → kindOf (scanAt text at .token) ≡ k → Agrees c (At at) → Agrees (tallied c k) (At (scanAt text at .next))
+    agrees-kind k c end name fits at i a = on-kind k c end name fits at (eq-eqb _ k i) a
+
     pub agrees-number : (c : Tally) → tooMuch c 2 ≡ false → (s : Step) → Agrees c s → Agrees (tallied c 2) (numberAfter text s .step)
     agrees-number c fits s a = subst (λ (t : Step). Agrees (tallied c 2) t) (sym (number-is text s)) (agrees-tok 2 c refl refl fits s a)
 
     -- ---- names
-
-    or-true : (b : Bool) → (b || true) ≡ true
-    or-true true = refl
-    or-true false = refl
 
     module _ (c d : Tally) (at : ℕ) (a : Agrees c (At at)) where
       -- 3 or 4 at the token that stands there, 5 at a name that is too long or one too many, and past any other name
