@@ -216,6 +216,13 @@ module _ (text : List ℕ) where
     pub agrees-kind : (k : ℕ) (c : Tally) → eqb 255 k ≡ false → eqb 1 k ≡ false → tooMuch c k ≡ false → (at : ℕ) → kindOf (scanAt text at .token) ≡ k → Agrees c (At at) → Agrees (tallied c k) (At (scanAt text at .next))
     agrees-kind k c end name fits at i a = on-kind k c end name fits at (eq-eqb _ k i) a
 
+    -- a token that the count does not mind
+    abbrev pub Quiet : Tally → ℕ → Type 0
+    Quiet c k = (tooMuch c k ≡ false) × (tallied c k ≡ c)
+
+    pub agrees-quiet : (k : ℕ) (c : Tally) → eqb 255 k ≡ false → eqb 1 k ≡ false → Quiet c k → (s : Step) → Agrees c s → Agrees c (fixedAfter text k s)
+    agrees-quiet k c end name q s a = subst (λ (d : Tally). Agrees d (fixedAfter text k s)) (q .1) (agrees-tok k c end name (q .0) s a)
+
     pub agrees-number : (c : Tally) → tooMuch c 2 ≡ false → (s : Step) → Agrees c s → Agrees (tallied c 2) (numberAfter text s .step)
     agrees-number c fits s a = subst (λ (t : Step). Agrees (tallied c 2) t) (sym (number-is text s)) (agrees-tok 2 c refl refl fits s a)
 
