@@ -30,6 +30,9 @@ pub or-true : (b : Bool) → (b || true) ≡ true
 or-true true = refl
 or-true false = refl
 
+pub or-false : (b : Bool) → b ≡ false → (b || false) ≡ false
+or-false b e = ap (λ (c : Bool). c || false) e
+
 module _ (text : List ℕ) where
   -- ---- the tokens from a place on
 

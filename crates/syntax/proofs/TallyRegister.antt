@@ -2,7 +2,7 @@
 -- Assumes nothing.
 use Prim.Native.Nat.{ℕ, zero, suc}
 use mathlib.Core.Path.{_≡_, refl, sym, ap, _∙_, subst}
-use mathlib.Core.Bool.{Bool, true, false, _||_}
+use mathlib.Core.Bool.{Bool, true, false}
 use mathlib.Core.List.{List, []}
 use mathlib.Core.Option.{Option}
 use lib.Dec.{eqb, ltb}
@@ -14,7 +14,7 @@ use Rattle.syntax.specs.Register.{markAfter, bitsAfter, valueAfter, offs
 use Rattle.syntax.specs.Sizes.{Spot, body, register, operand, asksOperand, onward, passesAt, Tally, tallied, tooMuch}
 use Rattle.syntax.proofs.MaskSteps.{masks-end, masks-on}
 use Rattle.syntax.proofs.RegisterFollows.{bits-is, value-is}
-use Rattle.syntax.proofs.Tally.{Agrees, Quiet, agrees-tok, agrees-quiet, agrees-past, agrees-name}
+use Rattle.syntax.proofs.Tally.{Agrees, Quiet, agrees-tok, agrees-quiet, agrees-past, agrees-name, or-false}
 use Rattle.syntax.proofs.TallyParameter.{agrees-width}
 use Rattle.syntax.proofs.TallyExpression.{agrees-expression}
 
@@ -107,9 +107,6 @@ module _ (text : List ℕ) (w : Option ℕ) where
     named-agrees s a =
         agrees-width text w inRegister (refl, refl) (refl, refl) (refl, refl) (refl, refl) _ (agrees-tok text w 314 inRegister refl refl refl _
         (agrees-rest _ (agrees-port _ _ (marked _ (agrees-tok text w 317 inRegister refl refl refl _ (agrees-name text w inRegister refl _ a))))))
-
-  or-false : (b : Bool) → b ≡ false → (b || false) ≡ false
-  or-false b e = ap (λ (c : Bool). c || false) e
 
   -- THE REGISTER, from outside of declarations
   pub agrees-register : (r v : ℕ) → ltb 64 (suc r) ≡ false → (s : Step) → Agrees text w (record { registers = r; variables = v; spot = body }) s
