@@ -24,7 +24,7 @@ use Rattle.syntax.specs.declared.reader.Named.{Named}
 use Rattle.syntax.specs.Reader.{unexpected, sizedName, nameIn, seenAt, placeAt, fixedAfter, nameAfter, numberAfter}
 use Rattle.syntax.specs.Parameter.{tooMany}
 use Rattle.syntax.proofs.Follows.{number-is}
-use Rattle.syntax.specs.Sizes.{Tally, tallied, longName, tooMuch, passedIn, tokensWith, tokensFrom}
+use Rattle.syntax.specs.Sizes.{Tally, tallied, longName, tooMuch, passedIn, tokensWith, tokensFrom, NotBefore, Kept}
 
 pub or-true : (b : Bool) → (b || true) ≡ true
 or-true true = refl
@@ -90,11 +90,6 @@ module _ (text : List ℕ) where
         → passedIn c (tokensFrom text at) ≡ passedIn (tallied c (kindOf (scanAt text at .token))) (tokensFrom text (scanAt text at .next))
     unfolding passedIn
     passed-later h = ap (passedIn c) (tokens-on at e) ∙ rw (passedIn, h)
-
-  -- no place, or none before another
-  abbrev pub NotBefore : Option ℕ → ℕ → Type 0
-  NotBefore none p = Unit {0}
-  NotBefore (some q) p = p ≤ q
 
   not-before : (w : Option ℕ) (p q : ℕ) → p ≤ q → NotBefore w q → NotBefore w p
   not-before none p q h n = tt
@@ -288,15 +283,38 @@ module _ (text : List ℕ) where
     agrees-extra-name c d over (At at) a = extra-name-in c d over at a (scanAt text at .token) refl
     agrees-extra-name c d over (Refused n p) a = refused-agrees c d n p a
 
-    pub agrees-extra-number : (c d : Tally) → tooMuch c 2 ≡ true → (s : Step) → Agrees c s → Agrees d (tooMany (placeAt text s) (numberAfter text s .step))
+    -- a token of a kind that is one too many
+    pub agrees-extra : (k : ℕ) → eqb 255 k ≡ false → (c d : Tally) → tooMuch c k ≡ true → (s : Step) → Agrees c s → Agrees d (tooMany (placeAt text s) (fixedAfter text k s))
     unfolding placeAt tooMany fixedAfter unexpected
-    agrees-extra-number c d over (Refused n p) a = subst (λ (t : Step). Agrees d (tooMany p t)) (sym (number-is text (Refused n p))) (refused-agrees c d n p a)
-    agrees-extra-number c d over (At at) a =
-        subst (λ (t : Step). Agrees d (tooMany (placeOf (scanAt text at .token)) t)) (sym (number-is text (At at))) (by (eqb (kindOf (scanAt text at .token)) 2) refl)
+    agrees-extra k end c d over (Refused n p) a = refused-agrees c d n p a
+    agrees-extra k end c d over (At at) a = by (eqb (kindOf (scanAt text at .token)) k) refl
       where
-        by : (b : Bool) → eqb (kindOf (scanAt text at .token)) 2 ≡ b → Agrees d (tooMany (placeOf (scanAt text at .token)) (pick b (At (scanAt text at .next)) (unexpected (scanAt text at .token))))
+        by : (b : Bool) → eqb (kindOf (scanAt text at .token)) k ≡ b → Agrees d (tooMany (placeOf (scanAt text at .token)) (pick b (At (scanAt text at .next)) (unexpected (scanAt text at .token))))
         by true i =
-            agrees-five c d at (goes (scanAt text at .token) 2 refl i)
-            (ap (λ (k : ℕ). longName (scanAt text at .token) || tooMuch c k) (eqb-true (kindOf (scanAt text at .token)) 2 i)
+            agrees-five c d at (goes (scanAt text at .token) k end i)
+            (ap (λ (n : ℕ). longName (scanAt text at .token) || tooMuch c n) (eqb-true (kindOf (scanAt text at .token)) k i)
             ∙ ap (λ (b : Bool). longName (scanAt text at .token) || b) over ∙ or-true (longName (scanAt text at .token))) a
         by false i = agrees-unexpected c d at a
+
+    pub agrees-extra-number : (c d : Tally) → tooMuch c 2 ≡ true → (s : Step) → Agrees c s → Agrees d (tooMany (placeAt text s) (numberAfter text s .step))
+    agrees-extra-number c d over s a = subst (λ (t : Step). Agrees d (tooMany (placeAt text s) t)) (sym (number-is text s)) (agrees-extra 2 refl c d over s a)
+
+    -- ---- the end
+
+    pub agrees-end : (c : Tally) (s : Step) → Agrees c s → Kept w (fixedAfter text 255 s)
+    unfolding Agrees Kept fixedAfter unexpected passedIn
+    agrees-end c (Refused n p) a = a
+    agrees-end c (At at) a = by (eqb (kindOf (scanAt text at .token)) 255) refl
+      where
+        over : (t : Token) → kindOf t ≡ 255 → goesOn t ≡ false
+        over (Name p n) e = absurd (omega arith)
+        over (Word p n) e = absurd (omega arith)
+        over (Number p n) e = absurd (omega arith)
+        over (Bits p n) e = absurd (omega arith)
+        over (Sign p n) e = absurd (omega arith)
+        over (End p) e = refl
+        over (Bad p) e = absurd (omega arith)
+
+        by : (b : Bool) → eqb (kindOf (scanAt text at .token)) 255 ≡ b → Kept w (pick b (At (scanAt text at .next)) (unexpected (scanAt text at .token)))
+        by true i = sym a ∙ ap (passedIn c) (tokens-end at (over (scanAt text at .token) (eqb-true _ 255 i)))
+        by false i = agrees-unexpected c c at a

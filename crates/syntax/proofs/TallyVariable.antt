@@ -12,10 +12,10 @@ use borrow.Author.Tests.{leb-true, leb-false, ltb-false, lt-ltb, le-ltb}
 use Rattle.syntax.specs.declared.reader.Step.{Step}
 use Rattle.syntax.specs.declared.attribute.Behaviours.{Behaviours}
 use Rattle.syntax.specs.Reader.{seenAt, fixedAfter, nameAfter, numberAfter}
-use Rattle.syntax.specs.Parameter.{extraRange}
+use Rattle.syntax.specs.Parameter.{extraRange, extraName}
 use Rattle.syntax.specs.Register.{markAfter}
 use Rattle.syntax.specs.Attribute.{triggerAfter, behaviourAfter, moreBehaviours, intAfter, typeAfter}
-use Rattle.syntax.specs.Piece.{Filed, extraPiece, rangePiece, moreBits, bracketAfter, pieceAfter, morePieces, piecesAfter}
+use Rattle.syntax.specs.Piece.{Filed, rangePiece, moreBits, bracketAfter, pieceAfter, morePieces, piecesAfter}
 use Rattle.syntax.specs.Variable.{secondMarked, secondAfter, restAfter, variableAfter}
 use Rattle.syntax.specs.Sizes.{Spot, body, piece, bracket, onward, passesAt, Tally, tallied, tooMuch}
 use Rattle.syntax.proofs.PieceSteps.{bits-end, bits-on, pieces-end, pieces-on}
@@ -85,7 +85,7 @@ module _ (text : List ℕ) (w : Option ℕ) (registers variables : ℕ) where
 
   -- name ([ ranges ])?
   one-piece : (count : ℕ) (table : List ℕ) (s : Step) → ltb 8 count ≡ false → Agrees text w (inPiece (suc count)) s → Counted inPiece (pieceAfter text count table s)
-  unfolding pieceAfter extraPiece tallied tooMuch passesAt onward
+  unfolding pieceAfter extraName tallied tooMuch passesAt onward
   one-piece count table s few a = by (leb 8 count) refl (eqb (seenAt text (nameAfter text s .step) .kind) 347) refl
     where
       name : leb 8 count ≡ false → Agrees text w (inPiece (suc count)) (nameAfter text s .step)

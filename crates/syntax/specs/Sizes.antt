@@ -1,7 +1,9 @@
 -- Document 01, "Sizes" and refusal 5: at which token of a text a size is passed. It is a count over the tokens from left to right, and knows nothing of how
 -- a text is read. It is meant for the tokens that begin a text of the grammar: from the token on that refusal 3 or 4 names, it says nothing.
-use Prim.Native.Nat.{ℕ, zero, suc, _+_}
+use Prim.Native.Nat.{ℕ, zero, suc, _+_, _≤_}
 use Prim.Native.Char.{Char, code}
+use mathlib.Core.Path.{_≡_}
+use mathlib.Core.Logic.{_⊎_}
 use mathlib.Core.Bool.{Bool, true, false, _&&_, _||_}
 use mathlib.Core.List.{List, [], _∷_}
 use mathlib.Core.Option.{Option, none, some}
@@ -12,6 +14,8 @@ use Rattle.token.specs.declared.Token.the-variants.{Name, Word, Number, Bits, S
 use Rattle.token.specs.Fair.{placeOf, goesOn}
 use Rattle.token.specs.Kind.{pick, kindOf}
 use Rattle.token.specs.Scan.{scanAt}
+use Rattle.syntax.specs.declared.reader.Step.{Step}
+use Rattle.syntax.specs.declared.reader.Step.the-variants.{At, Refused}
 
 -- ---- the sizes
 
@@ -159,3 +163,15 @@ tokensFrom text at = tokensWith (suc (length text)) text at
 -- THE PLACE OF REFUSAL 5
 unfoldable pub passedAt : List ℕ → Option ℕ
 passedAt text = passedIn nothingYet (tokensFrom text 0)
+
+-- ---- what a reading answers by it
+
+-- no place, or none before p
+abbrev pub NotBefore : Option ℕ → ℕ → Type 0
+NotBefore none p = Unit {0}
+NotBefore (some q) p = p ≤ q
+
+-- A text that reads passes no size; refusal 5 is given at the place where one is first passed; any other, where none is passed before.
+unfoldable pub Kept : Option ℕ → Step → Type 0
+Kept passed (At end) = passed ≡ none
+Kept passed (Refused number place) = ((number ≡ 5) × (passed ≡ some place)) ⊎ ((number ≡ 5 → ⊥) × NotBefore passed place)

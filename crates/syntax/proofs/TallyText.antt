@@ -1,0 +1,175 @@
+-- The reading of a whole text agrees with the count of sizes, whatever is made of its declarations.
+-- Assumes nothing.
+use Prim.Native.Nat.{ℕ, zero, suc, _+_}
+use native.Mathlib.Omega.{arith}
+use mathlib.Core.Path.{_≡_, refl, sym, ap, _∙_, subst}
+use mathlib.Core.Bool.{Bool, true, false, _||_}
+use mathlib.Core.List.{List, []}
+use mathlib.Core.Option.{Option}
+use lib.Dec.{eqb, leb, ltb}
+use lib.ListN.{length, replicate}
+use borrow.Author.Tests.{leb-true, leb-false, lt-ltb, le-ltb}
+use Rattle.syntax.specs.declared.reader.Step.{Step}
+use Rattle.syntax.specs.declared.reader.Step.the-variants.{At, Refused}
+use Rattle.syntax.specs.declared.reader.Named.{Named}
+use Rattle.syntax.specs.declared.register.Register.{Register}
+use Rattle.syntax.specs.Reader.{seenAt, fixedAfter}
+use Rattle.syntax.specs.Heading.{headAfter}
+use Rattle.syntax.specs.Parameter.{extraName, parameterAfter}
+use Rattle.syntax.specs.Register.{registerAfter}
+use Rattle.syntax.specs.Variable.{VariableRead, variableAfter}
+use Rattle.syntax.specs.Loop.{loopWith}
+use Rattle.syntax.specs.Text.{Declaration, aDevice, aParameter, aRegister, aVariable, Progress, begins, extraWord, movedTo, counted, taken, headWith, parameterWith, moreParameters, registerWith, variableWith, declarationWith, moreDeclarations, parametersWith, declarationsWith, readingWith, listed, reading}
+use Rattle.syntax.specs.Sizes.{Spot, front, parameter, body, register, piece, onward, passesAt, asksOperand, Tally, nothingYet, tallied, tooMuch, passedAt, Kept}
+use Rattle.syntax.proofs.LoopSteps.{loop-end, loop-on}
+use Rattle.syntax.proofs.Tally.{Agrees, refused-agrees, agrees-tok, agrees-past, agrees-name, agrees-extra, agrees-extra-name, agrees-end, or-false}
+use Rattle.syntax.proofs.TallyParameter.{agrees-parameter}
+use Rattle.syntax.proofs.TallyRegister.{agrees-register}
+use Rattle.syntax.proofs.TallyVariable.{InVariable, agrees-variable}
+
+-- what every turn keeps, a loop keeps
+loop-keeps : {P : Type 0} (text : List ℕ) (step : P → Step) (tells : ℕ → Bool) (turn : P → P) (I : P → Type 0)
+    → ((p : P) → tells (seenAt text (step p) .kind) ≡ true → I p → I (turn p)) → (room : ℕ) (p : P) → I p → I (loopWith text step tells turn room p)
+unfolding loopWith
+loop-keeps text step tells turn I keeps zero p i = i
+loop-keeps text step tells turn I keeps (suc room) p i = by (tells (seenAt text (step p) .kind)) refl (loop-keeps text step tells turn I keeps room (turn p))
+  where
+    by : (b : Bool) → tells (seenAt text (step p) .kind) ≡ b → (I (turn p) → I (loopWith text step tells turn room (turn p))) → I (loopWith text step tells turn (suc room) p)
+    by true e rest = subst I (sym (loop-on text step tells turn room p e)) (rest (keeps p e i))
+    by false e rest = subst I (sym (loop-end text step tells turn (suc room) p e)) i
+
+next-one : (n : ℕ) → suc n ≡ n + 1
+next-one n = omega arith
+
+module _ {X : Type 0} (judge : X → Declaration → X) (text : List ℕ) (w : Option ℕ) where
+  -- the count where so much has been declared
+  abbrev tally : ℕ → ℕ → Spot → Tally
+  tally r v spot = record { registers = r; variables = v; spot = spot }
+
+  abbrev At-spot : (Progress X → Spot) → Progress X → Type 0
+  At-spot spot p = Agrees text w (tally (p .registers) (p .variables) (spot p)) (p .step)
+
+  -- ---- the heading
+
+  -- as many parameters as are counted
+  abbrev InHeading : Progress X → Type 0
+  InHeading p = (ltb 16 (p .parameters) ≡ false) × At-spot (λ q. parameter (q .parameters)) p
+
+  -- device name (
+  head-agrees : (p : Progress X) → At-spot (λ q. front) p → Agrees text w (tally (p .registers) (p .variables) (parameter 1)) (headAfter text (p .step) .step)
+  unfolding headAfter tallied tooMuch passesAt onward
+  head-agrees p a =
+      agrees-tok text w 296 (tally (p .registers) (p .variables) front) refl refl refl _
+      (agrees-name text w (tally (p .registers) (p .variables) front) refl _ (agrees-tok text w 516 (tally (p .registers) (p .variables) front) refl refl refl (p .step) a))
+
+  -- one more parameter has been read, or the reading has stopped
+  parameter-taken : (p : Progress X) (d : _) (s : Step) → ltb 16 (p .parameters) ≡ false → ltb 16 (suc (p .parameters)) ≡ false
+      → Agrees text w (tally (p .registers) (p .variables) (parameter (suc (p .parameters)))) s → InHeading (taken judge p (aParameter d) s)
+  unfolding taken counted movedTo
+  parameter-taken p d (At next) few fits a =
+      subst (λ (n : ℕ). (ltb 16 n ≡ false) × Agrees text w (tally (p .registers) (p .variables) (parameter n)) (At next)) (next-one (p .parameters)) (fits, a)
+  parameter-taken p d (Refused n q) few fits a = (few, refused-agrees text w _ _ n q a)
+
+  parameter-agrees : (p : Progress X) → ltb 16 (p .parameters) ≡ false → At-spot (λ q. parameter (suc (q .parameters))) p → InHeading (parameterWith judge text p)
+  unfolding parameterWith extraName movedTo tooMuch passesAt
+  parameter-agrees p few a = by (leb 16 (p .parameters)) refl
+    where
+      by : (b : Bool) → leb 16 (p .parameters) ≡ b → InHeading (parameterWith judge text p)
+      by true e = rw e (few, agrees-extra-name text w (tally (p .registers) (p .variables) (parameter (suc (p .parameters)))) (tally (p .registers) (p .variables) (parameter (p .parameters))) (lt-ltb 16 (suc (p .parameters)) (omega (arith, leb-true 16 (p .parameters) e))) (p .step) a)
+      by false e =
+          let fits = le-ltb 16 (suc (p .parameters)) (leb-false 16 (p .parameters) e) in
+          rw e (parameter-taken p _ _ few fits (agrees-parameter text w (p .registers) (p .variables) (suc (p .parameters)) fits (replicate 32 0) (p .step) a))
+
+  -- (, param)*
+  parameters-agree : (room : ℕ) (p : Progress X) → InHeading p → InHeading (moreParameters judge text room p)
+  unfolding moreParameters movedTo tallied tooMuch passesAt onward
+  parameters-agree room p i =
+      loop-keeps text (λ (q : Progress X). q .step) (λ kind. eqb kind 300) (λ (q : Progress X). parameterWith judge text (movedTo q (seenAt text (q .step) .past))) InHeading
+      (λ q e i. parameter-agrees (movedTo q (seenAt text (q .step) .past)) (i .0)
+      (agrees-past text w 300 (tally (q .registers) (q .variables) (parameter (q .parameters))) refl refl (i .0) (q .step) e (i .1))) room p i
+
+  -- the device has been read, before any parameter
+  head-taken : (p : Progress X) (d : Named) (s : Step) → p .parameters ≡ 0 → Agrees text w (tally (p .registers) (p .variables) (parameter 1)) s
+      → (ltb 16 (taken judge p (aDevice d) s .parameters) ≡ false) × At-spot (λ q. parameter (suc (q .parameters))) (taken judge p (aDevice d) s)
+  unfolding taken counted movedTo
+  head-taken p d (At next) z a = rw z (refl, a)
+  head-taken p d (Refused n q) z a = rw z (refl, a)
+
+  -- device name ( param (, param)* )
+  heading-agrees : (p : Progress X) → p .parameters ≡ 0 → At-spot (λ q. front) p → At-spot (λ q. body) (parametersWith judge text p)
+  unfolding parametersWith movedTo headWith tallied tooMuch passesAt onward
+  heading-agrees p z a =
+      let head = head-taken p (headAfter text (p .step)) (headAfter text (p .step) .step) z (head-agrees p a) in
+      let all = parameters-agree (length text) (parameterWith judge text (headWith judge text p)) (parameter-agrees (headWith judge text p) (head .0) (head .1)) in
+      agrees-tok text w 297 (tally _ _ (parameter _)) refl refl (all .0) _ (all .1)
+
+  -- ---- the declarations
+
+  -- a register ; or one too many
+  register-taken : (p : Progress X) (d : Register) (s : Step) → Agrees text w (tally (suc (p .registers)) (p .variables) body) s → At-spot (λ q. body) (taken judge p (aRegister d) s)
+  unfolding taken counted movedTo
+  register-taken p d (At next) a = subst (λ (n : ℕ). Agrees text w (tally n (p .variables) body) (At next)) (next-one (p .registers)) a
+  register-taken p d (Refused n q) a = refused-agrees text w _ _ n q a
+
+  register-agrees : (p : Progress X) → At-spot (λ q. body) p → At-spot (λ q. body) (registerWith judge text p)
+  unfolding registerWith extraWord movedTo asksOperand tallied tooMuch passesAt onward
+  register-agrees p a = by (leb 64 (p .registers)) refl
+    where
+      by : (b : Bool) → leb 64 (p .registers) ≡ b → At-spot (λ q. body) (registerWith judge text p)
+      by true e =
+          rw e (agrees-extra text w 529 refl (tally (p .registers) (p .variables) body) (tally (p .registers) (p .variables) body)
+          (ap (λ (c : Bool). c || false) (lt-ltb 64 (suc (p .registers)) (omega (arith, leb-true 64 (p .registers) e)))) (p .step) a)
+      by false e =
+          rw e (register-taken p (registerAfter text (p .step)) (fixedAfter text 315 (registerAfter text (p .step) .step))
+          (agrees-tok text w 315 (tally (suc (p .registers)) (p .variables) (register [])) refl refl refl (registerAfter text (p .step) .step)
+          (agrees-register text w (p .registers) (p .variables) (le-ltb 64 (suc (p .registers)) (leb-false 64 (p .registers) e)) (p .step) a)))
+
+  -- a variable ; or one too many
+  variable-taken : (p : Progress X) (d : VariableRead) (s : Step) → Agrees text w (tally (p .registers) (suc (p .variables)) body) s → At-spot (λ q. body) (taken judge p (aVariable d) s)
+  unfolding taken counted movedTo
+  variable-taken p d (At next) a = subst (λ (n : ℕ). Agrees text w (tally (p .registers) n body) (At next)) (next-one (p .variables)) a
+  variable-taken p d (Refused n q) a = refused-agrees text w _ _ n q a
+
+  ended : (r v : ℕ) (s : Step) → InVariable text w r v s → Agrees text w (tally r v body) (fixedAfter text 315 s)
+  unfolding tallied tooMuch passesAt onward
+  ended r v s a = agrees-tok text w 315 (tally r v (piece (a .0))) refl refl (a .1) s (a .2)
+
+  variable-agrees : (p : Progress X) → At-spot (λ q. body) p → At-spot (λ q. body) (variableWith judge text p)
+  unfolding variableWith extraWord movedTo tooMuch passesAt
+  variable-agrees p a = by (leb 128 (p .variables)) refl
+    where
+      by : (b : Bool) → leb 128 (p .variables) ≡ b → At-spot (λ q. body) (variableWith judge text p)
+      by true e =
+          rw e (agrees-extra text w 537 refl (tally (p .registers) (p .variables) body) (tally (p .registers) (p .variables) body)
+          (ap (λ (c : Bool). c || false) (lt-ltb 128 (suc (p .variables)) (omega (arith, leb-true 128 (p .variables) e)))) (p .step) a)
+      by false e =
+          rw e (variable-taken p _ _ (ended (p .registers) (suc (p .variables)) _
+          (agrees-variable text w (p .registers) (p .variables) (le-ltb 128 (suc (p .variables)) (leb-false 128 (p .variables) e)) (replicate 40 0) (replicate 40 0) (p .step) a)))
+
+  declaration-agrees : (p : Progress X) → At-spot (λ q. body) p → At-spot (λ q. body) (declarationWith judge text p)
+  unfolding declarationWith
+  declaration-agrees p a = by (eqb (seenAt text (p .step) .kind) 529) refl
+    where
+      by : (b : Bool) → eqb (seenAt text (p .step) .kind) 529 ≡ b → At-spot (λ q. body) (declarationWith judge text p)
+      by true e = rw e (register-agrees p a)
+      by false e = rw e (variable-agrees p a)
+
+  -- { (declaration ;)+ }
+  body-agrees : (p : Progress X) → At-spot (λ q. body) p → At-spot (λ q. body) (declarationsWith judge text p)
+  unfolding declarationsWith moreDeclarations movedTo tallied tooMuch passesAt onward
+  body-agrees p a =
+      agrees-tok text w 381 (tally _ _ body) refl refl refl _
+      (loop-keeps text (λ (q : Progress X). q .step) begins (declarationWith judge text) (λ q. At-spot (λ q. body) q) (λ q e i. declaration-agrees q i) (length text) (declarationWith judge text (movedTo p (fixedAfter text 379 (p .step))))
+      (declaration-agrees (movedTo p (fixedAfter text 379 (p .step))) (agrees-tok text w 379 (tally (p .registers) (p .variables) body) refl refl refl (p .step) a)))
+
+-- THE TEXT
+pub sizes-kept : {X : Type 0} (judge : X → Declaration → X) (text : List ℕ) (x : X) → Kept (passedAt text) (readingWith judge text x .step)
+unfolding readingWith movedTo passedAt nothingYet Agrees
+sizes-kept judge text x =
+    agrees-end text (passedAt text) _ _
+    (body-agrees judge text (passedAt text) (parametersWith judge text (record { parameters = 0; registers = 0; variables = 0; made = x; step = At 0 }))
+    (heading-agrees judge text (passedAt text) (record { parameters = 0; registers = 0; variables = 0; made = x; step = At 0 }) refl refl))
+
+pub reading-kept : (text : List ℕ) → Kept (passedAt text) (reading text .step)
+unfolding reading
+reading-kept text = sizes-kept listed text []
