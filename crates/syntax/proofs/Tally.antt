@@ -16,7 +16,9 @@ use Rattle.token.specs.declared.Token.the-variants.{Name, Word, Number, Bits, S
 use Rattle.token.specs.Scan.{scanAt}
 use Rattle.token.specs.Fair.{placeOf, goesOn, Whole}
 use Rattle.token.specs.Kind.{pick, kindOf, refusedAs}
+use Rattle.token.specs.Tokens.{tokensAt}
 use Rattle.token.proofs.Laws.{passes, scan-fair}
+use Rattle.token.proofs.Reading.{tokens-on, tokens-end}
 use Rattle.grammar.proofs.SetLaws.{clash}
 use Rattle.syntax.specs.declared.reader.Step.{Step}
 use Rattle.syntax.specs.declared.reader.Step.the-variants.{At, Refused}
@@ -24,7 +26,7 @@ use Rattle.syntax.specs.declared.reader.Named.{Named}
 use Rattle.syntax.specs.Reader.{unexpected, sizedName, nameIn, seenAt, placeAt, fixedAfter, nameAfter, numberAfter}
 use Rattle.syntax.specs.Parameter.{tooMany}
 use Rattle.syntax.proofs.Follows.{number-is}
-use Rattle.syntax.specs.Sizes.{Tally, tallied, longName, tooMuch, passedIn, tokensWith, tokensFrom, NotBefore, Kept}
+use Rattle.syntax.specs.Sizes.{Tally, tallied, longName, tooMuch, passedIn, NotBefore, Kept}
 
 pub or-true : (b : Bool) → (b || true) ≡ true
 or-true true = refl
@@ -34,69 +36,25 @@ pub or-false : (b : Bool) → b ≡ false → (b || false) ≡ false
 or-false b e = ap (λ (c : Bool). c || false) e
 
 module _ (text : List ℕ) where
-  -- ---- the tokens from a place on
-
-  module _ (at : ℕ) (most : ℕ) where
-    with-on : goesOn (scanAt text at .token) ≡ true → tokensWith (suc most) text at ≡ scanAt text at .token ∷ tokensWith most text (scanAt text at .next)
-    unfolding tokensWith
-    with-on e = rw (tokensWith, e)
-
-    with-end : goesOn (scanAt text at .token) ≡ false → tokensWith (suc most) text at ≡ []
-    unfolding tokensWith
-    with-end e = rw (tokensWith, e)
-
-  -- past the end there are none
-  none-over : (at f : ℕ) → length text < at → tokensWith f text at ≡ []
-  unfolding tokensWith
-  none-over at zero h = refl
-  none-over at (suc f) h = by (goesOn (scanAt text at .token)) refl
-    where
-      by : (c : Bool) → goesOn (scanAt text at .token) ≡ c → tokensWith (suc f) text at ≡ []
-      by true e = absurd (omega (arith, passes text at e))
-      by false e = with-end at f e
-
-  enough : (f g at : ℕ) → length text < at + f → length text < at + g → tokensWith f text at ≡ tokensWith g text at
-  enough zero g at hf hg = none-over at zero (omega arith) ∙ sym (none-over at g (omega arith))
-  enough (suc f) zero at hf hg = none-over at (suc f) (omega arith) ∙ sym (none-over at zero (omega arith))
-  enough (suc f) (suc g) at hf hg = by (goesOn (scanAt text at .token)) refl (λ h k. enough f g (scanAt text at .next) h k)
-    where
-      by : (c : Bool) → goesOn (scanAt text at .token) ≡ c
-          → (length text < scanAt text at .next + f → length text < scanAt text at .next + g → tokensWith f text (scanAt text at .next) ≡ tokensWith g text (scanAt text at .next))
-          → tokensWith (suc f) text at ≡ tokensWith (suc g) text at
-      by true e same =
-          let ahead = passes text at e .0 in
-          with-on at f e ∙ ap (λ (ts : List Token). scanAt text at .token ∷ ts) (same (omega arith) (omega arith)) ∙ sym (with-on at g e)
-      by false e same = with-end at f e ∙ sym (with-end at g e)
-
-  pub tokens-on : (at : ℕ) → goesOn (scanAt text at .token) ≡ true → tokensFrom text at ≡ scanAt text at .token ∷ tokensFrom text (scanAt text at .next)
-  unfolding tokensFrom
-  tokens-on at e =
-      let ahead = passes text at e .0 in
-      with-on at (length text) e ∙ ap (λ (ts : List Token). scanAt text at .token ∷ ts) (enough (length text) (suc (length text)) (scanAt text at .next) (omega arith) (omega arith))
-
-  pub tokens-end : (at : ℕ) → goesOn (scanAt text at .token) ≡ false → tokensFrom text at ≡ []
-  unfolding tokensFrom
-  tokens-end at e = with-end at (length text) e
-
   -- ---- the count from a place on
 
   module _ (c : Tally) (at : ℕ) (e : goesOn (scanAt text at .token) ≡ true) where
     -- a size is passed at the token, or the count goes on behind it
-    pub passed-here : (longName (scanAt text at .token) || tooMuch c (kindOf (scanAt text at .token))) ≡ true → passedIn c (tokensFrom text at) ≡ some (placeOf (scanAt text at .token))
+    pub passed-here : (longName (scanAt text at .token) || tooMuch c (kindOf (scanAt text at .token))) ≡ true → passedIn c (tokensAt text at) ≡ some (placeOf (scanAt text at .token))
     unfolding passedIn
-    passed-here h = ap (passedIn c) (tokens-on at e) ∙ rw (passedIn, h)
+    passed-here h = ap (passedIn c) (tokens-on text at e) ∙ rw (passedIn, h)
 
     pub passed-later : (longName (scanAt text at .token) || tooMuch c (kindOf (scanAt text at .token))) ≡ false
-        → passedIn c (tokensFrom text at) ≡ passedIn (tallied c (kindOf (scanAt text at .token))) (tokensFrom text (scanAt text at .next))
+        → passedIn c (tokensAt text at) ≡ passedIn (tallied c (kindOf (scanAt text at .token))) (tokensAt text (scanAt text at .next))
     unfolding passedIn
-    passed-later h = ap (passedIn c) (tokens-on at e) ∙ rw (passedIn, h)
+    passed-later h = ap (passedIn c) (tokens-on text at e) ∙ rw (passedIn, h)
 
   not-before : (w : Option ℕ) (p q : ℕ) → p ≤ q → NotBefore w q → NotBefore w p
   not-before none p q h n = tt
   not-before (some x) p q h n = omega arith
 
   -- the token behind one stands behind it
-  ends-behind : (next : ℕ) (t : Token) → Whole text next t → (placeOf t ≤ next) × (next ≤ length text)
+  ends-behind : (next : ℕ) (t : Token) → Whole (length text) next t → (placeOf t ≤ next) × (next ≤ length text)
   ends-behind next (Name p n) h = omega arith
   ends-behind next (Word p n) h = omega arith
   ends-behind next (Number p n) h = omega arith
@@ -108,22 +66,35 @@ module _ (text : List ℕ) where
   place-rises : (at : ℕ) → placeOf (scanAt text at .token) ≤ placeOf (scanAt text (scanAt text at .next) .token)
   place-rises at = omega (arith, ends-behind (scanAt text at .next) (scanAt text at .token) (scan-fair text at .whole), scan-fair text (scanAt text at .next) .from)
 
-  -- what is passed from a place on is not before the next token
-  from-here : (f : ℕ) (c : Tally) (at : ℕ) → NotBefore (passedIn c (tokensWith f text at)) (placeOf (scanAt text at .token))
-  unfolding tokensWith passedIn
-  from-here zero c at = tt
-  from-here (suc f) c at = by (goesOn (scanAt text at .token)) refl (from-here f (tallied c (kindOf (scanAt text at .token))) (scanAt text at .next))
+  -- what is passed from a place on is not before the next token: where that is the end, and everywhere
+  at-end : (c : Tally) (at : ℕ) → goesOn (scanAt text at .token) ≡ false → NotBefore (passedIn c (tokensAt text at)) (placeOf (scanAt text at .token))
+  unfolding passedIn
+  at-end c at e = rw (tokens-end text at e) (by (longName (scanAt text at .token) || tooMuch c (kindOf (scanAt text at .token))) refl)
     where
-      by : (b : Bool) → goesOn (scanAt text at .token) ≡ b
-          → NotBefore (passedIn (tallied c (kindOf (scanAt text at .token))) (tokensWith f text (scanAt text at .next))) (placeOf (scanAt text (scanAt text at .next) .token))
-          → NotBefore (passedIn c (tokensWith (suc f) text at)) (placeOf (scanAt text at .token))
-      by false e rest = rw (with-end at f e) tt
-      by true e rest = rw (with-on at f e) (on (longName (scanAt text at .token) || tooMuch c (kindOf (scanAt text at .token))) refl)
-        where
-          on : (b : Bool) → (longName (scanAt text at .token) || tooMuch c (kindOf (scanAt text at .token))) ≡ b
-              → NotBefore (passedIn c (scanAt text at .token ∷ tokensWith f text (scanAt text at .next))) (placeOf (scanAt text at .token))
-          on true h = rw (passedIn, h) (omega arith)
-          on false h = rw (passedIn, h) (not-before (passedIn (tallied c (kindOf (scanAt text at .token))) (tokensWith f text (scanAt text at .next))) (placeOf (scanAt text at .token)) (placeOf (scanAt text (scanAt text at .next) .token)) (place-rises at) rest)
+      by : (b : Bool) → (longName (scanAt text at .token) || tooMuch c (kindOf (scanAt text at .token))) ≡ b → NotBefore (passedIn c (scanAt text at .token ∷ [])) (placeOf (scanAt text at .token))
+      by true i = rw (passedIn, i) (omega arith)
+      by false i = rw (passedIn, i) tt
+
+  from-here : (bound : ℕ) (c : Tally) (at : ℕ) → length text < at + bound → NotBefore (passedIn c (tokensAt text at)) (placeOf (scanAt text at .token))
+  unfolding passedIn
+  from-here zero c at h = by (goesOn (scanAt text at .token)) refl (longName (scanAt text at .token) || tooMuch c (kindOf (scanAt text at .token))) refl
+    where
+      by : (b : Bool) → goesOn (scanAt text at .token) ≡ b → (d : Bool) → (longName (scanAt text at .token) || tooMuch c (kindOf (scanAt text at .token))) ≡ d
+          → NotBefore (passedIn c (tokensAt text at)) (placeOf (scanAt text at .token))
+      by true e d i = absurd (omega (arith, passes text at e))
+      by false e d i = at-end c at e
+  from-here (suc bound) c at h = by (goesOn (scanAt text at .token)) refl (longName (scanAt text at .token) || tooMuch c (kindOf (scanAt text at .token))) refl
+      (λ ahead. from-here bound (tallied c (kindOf (scanAt text at .token))) (scanAt text at .next) ahead)
+    where
+      by : (b : Bool) → goesOn (scanAt text at .token) ≡ b → (d : Bool) → (longName (scanAt text at .token) || tooMuch c (kindOf (scanAt text at .token))) ≡ d
+          → (length text < scanAt text at .next + bound → NotBefore (passedIn (tallied c (kindOf (scanAt text at .token))) (tokensAt text (scanAt text at .next))) (placeOf (scanAt text (scanAt text at .next) .token)))
+          → NotBefore (passedIn c (tokensAt text at)) (placeOf (scanAt text at .token))
+      by false e d i rest = at-end c at e
+      by true e true i rest = rw (passed-here c at e i) (omega arith)
+      by true e false i rest =
+          let ahead = passes text at e .0 in
+          rw (passed-later c at e i)
+          (not-before (passedIn (tallied c (kindOf (scanAt text at .token))) (tokensAt text (scanAt text at .next))) (placeOf (scanAt text at .token)) (placeOf (scanAt text (scanAt text at .next) .token)) (place-rises at) (rest (omega arith)))
 
   -- ---- agreement
 
@@ -131,7 +102,7 @@ module _ (text : List ℕ) where
     -- `w` is where a size is first passed. A step agrees with a count: at a place, when from there on the count comes to `w`; refused by 5, when `w` is that
     -- place; and refused by another number, when no size is passed before.
     unfoldable pub Agrees : Tally → Step → Type 0
-    Agrees c (At at) = passedIn c (tokensFrom text at) ≡ w
+    Agrees c (At at) = passedIn c (tokensAt text at) ≡ w
     Agrees c (Refused number place) = ((number ≡ 5) × (w ≡ some place)) ⊎ ((number ≡ 5 → ⊥) × NotBefore w place)
 
     -- a refusal agrees with every count or with none
@@ -150,9 +121,9 @@ module _ (text : List ℕ) where
 
     -- 3 or 4 at the next token
     pub agrees-unexpected : (c d : Tally) (at : ℕ) → Agrees c (At at) → Agrees d (unexpected (scanAt text at .token))
-    unfolding Agrees unexpected tokensFrom
+    unfolding Agrees unexpected
     agrees-unexpected c d at a =
-        inr (not-five (scanAt text at .token), subst (λ (v : Option ℕ). NotBefore v (placeOf (scanAt text at .token))) a (from-here (suc (length text)) c at))
+        inr (not-five (scanAt text at .token), subst (λ (v : Option ℕ). NotBefore v (placeOf (scanAt text at .token))) a (from-here (suc (length text)) c at (omega arith)))
 
     -- past a token that passes no size
     pub agrees-on : (c : Tally) (at : ℕ) → goesOn (scanAt text at .token) ≡ true → (longName (scanAt text at .token) || tooMuch c (kindOf (scanAt text at .token))) ≡ false
@@ -301,20 +272,23 @@ module _ (text : List ℕ) where
 
     -- ---- the end
 
-    pub agrees-end : (c : Tally) (s : Step) → Agrees c s → Kept w (fixedAfter text 255 s)
-    unfolding Agrees Kept fixedAfter unexpected passedIn
-    agrees-end c (Refused n p) a = a
-    agrees-end c (At at) a = by (eqb (kindOf (scanAt text at .token)) 255) refl
+    pub agrees-end : (c : Tally) → tooMuch c 255 ≡ false → (s : Step) → Agrees c s → Kept w (fixedAfter text 255 s)
+    unfolding Agrees Kept fixedAfter unexpected passedIn longName
+    agrees-end c fits (Refused n p) a = a
+    agrees-end c fits (At at) a = by (eqb (kindOf (scanAt text at .token)) 255) refl
       where
-        over : (t : Token) → kindOf t ≡ 255 → goesOn t ≡ false
+        over : (t : Token) → kindOf t ≡ 255 → (goesOn t ≡ false) × (longName t ≡ false)
         over (Name p n) e = absurd (omega arith)
         over (Word p n) e = absurd (omega arith)
         over (Number p n) e = absurd (omega arith)
         over (Bits p n) e = absurd (omega arith)
         over (Sign p n) e = absurd (omega arith)
-        over (End p) e = refl
+        over (End p) e = (refl, refl)
         over (Bad p) e = absurd (omega arith)
 
         by : (b : Bool) → eqb (kindOf (scanAt text at .token)) 255 ≡ b → Kept w (pick b (At (scanAt text at .next)) (unexpected (scanAt text at .token)))
-        by true i = sym a ∙ ap (passedIn c) (tokens-end at (over (scanAt text at .token) (eqb-true _ 255 i)))
+        by true i =
+            let last = over (scanAt text at .token) (eqb-true (kindOf (scanAt text at .token)) 255 i) in
+            let is : kindOf (scanAt text at .token) ≡ 255 = eqb-true (kindOf (scanAt text at .token)) 255 i in
+            sym a ∙ ap (passedIn c) (tokens-end text at (last .0)) ∙ rw (passedIn, last .1, is, fits)
         by false i = agrees-unexpected c c at a

@@ -10,7 +10,8 @@ use Rattle.token.specs.Word.{isLetter, isNameByte, reserved, wordOf}
 use Rattle.token.specs.Number.{digitOf, isDigit, valueFrom, prefixed, digitsOf}
 use Rattle.token.specs.Sign.{longSigns, isSignByte, longSign, signNumber, longestSign, signWidth}
 use Rattle.token.specs.Scan.{isBit, badToken, nameToken, nameFrom, numberToken, numberFrom, bitsToken, bitsFrom, signToken, signHere, signFrom, tokenBy, tokenFrom, scanFrom, scanRest, scanAt}
-use Rattle.syntax.specs.Sizes.{ended, closed, asksOperand, onward, passesAt, nothingYet, tallied, longName, tooMuch, passedIn, tokensWith, tokensFrom, passedAt}
+use Rattle.token.specs.Tokens.{listed, tokensFrom}
+use Rattle.syntax.specs.Sizes.{ended, closed, asksOperand, onward, passesAt, nothingYet, tallied, longName, tooMuch, passedIn, passedAt}
 
 -- so many times the bytes
 pub times : ℕ → List ℕ → List ℕ
@@ -36,7 +37,7 @@ pub headings :
     ∷ ((1, "device d(b:bit[8] port@{") ∷ (15, "1..2,") ∷ (1, "3},c:bit[8] port@{") ∷ (15, "1,") ∷ (1, "1}") ∷ [])
     ∷ ((1, "device d(b:bit[8] port@{") ∷ (16, "1..2,") ∷ (1, "3},c:bit[8] port@{") ∷ (15, "1,") ∷ (1, "1}") ∷ []) ∷ [])
     ≡ none ∷ some 7 ∷ none ∷ some 233 ∷ none ∷ some 104 ∷ []
-unfolding passed build times scanAt scanRest scanFrom tokenFrom tokenBy nameFrom nameToken numberFrom numberToken bitsFrom bitsToken signFrom signHere signToken badToken isBit gapFrom isBlank isLetter isNameByte reserved wordOf digitOf isDigit valueFrom prefixed digitsOf longSigns isSignByte longSign signNumber longestSign signWidth same begins oneOf within firstTrue runFrom ended closed asksOperand onward passesAt nothingYet tallied longName tooMuch passedIn tokensWith tokensFrom passedAt
+unfolding passed build times scanAt scanRest scanFrom tokenFrom tokenBy nameFrom nameToken numberFrom numberToken bitsFrom bitsToken signFrom signHere signToken badToken isBit gapFrom isBlank isLetter isNameByte reserved wordOf digitOf isDigit valueFrom prefixed digitsOf longSigns isSignByte longSign signNumber longestSign signWidth same begins oneOf within firstTrue runFrom ended closed asksOperand onward passesAt nothingYet tallied longName tooMuch passedIn listed tokensFrom passedAt
 headings = refl
 
 abbrev upToVariable : ℕ × String
@@ -52,7 +53,7 @@ pub pieces :
     ∷ (upToVariable ∷ (1, "r[7..4,2]#r#r[1,0,1,0]#r#r:int(8);") ∷ [])
     ∷ (upToVariable ∷ (1, "read ") ∷ (7, "r#") ∷ (1, "r,write ") ∷ (7, "r#") ∷ (1, "r,volatile,write trigger:bool;") ∷ []) ∷ [])
     ≡ none ∷ some 51 ∷ none ∷ some 53 ∷ none ∷ some 60 ∷ none ∷ []
-unfolding passed build times scanAt scanRest scanFrom tokenFrom tokenBy nameFrom nameToken numberFrom numberToken bitsFrom bitsToken signFrom signHere signToken badToken isBit gapFrom isBlank isLetter isNameByte reserved wordOf digitOf isDigit valueFrom prefixed digitsOf longSigns isSignByte longSign signNumber longestSign signWidth same begins oneOf within firstTrue runFrom ended closed asksOperand onward passesAt nothingYet tallied longName tooMuch passedIn tokensWith tokensFrom passedAt
+unfolding passed build times scanAt scanRest scanFrom tokenFrom tokenBy nameFrom nameToken numberFrom numberToken bitsFrom bitsToken signFrom signHere signToken badToken isBit gapFrom isBlank isLetter isNameByte reserved wordOf digitOf isDigit valueFrom prefixed digitsOf longSigns isSignByte longSign signNumber longestSign signWidth same begins oneOf within firstTrue runFrom ended closed asksOperand onward passesAt nothingYet tallied longName tooMuch passedIn listed tokensFrom passedAt
 pieces = refl
 
 abbrev upToOffset : ℕ × String
@@ -69,5 +70,15 @@ pub depths :
     ∷ (upToOffset ∷ (20, "(1)+-(1)*-1-") ∷ (1, "1:bit[8];") ∷ [])
     ∷ (upToOffset ∷ (17, "(") ∷ []) ∷ [])
     ≡ none ∷ some 53 ∷ none ∷ some 53 ∷ none ∷ some 55 ∷ none ∷ some 53 ∷ []
-unfolding passed build times scanAt scanRest scanFrom tokenFrom tokenBy nameFrom nameToken numberFrom numberToken bitsFrom bitsToken signFrom signHere signToken badToken isBit gapFrom isBlank isLetter isNameByte reserved wordOf digitOf isDigit valueFrom prefixed digitsOf longSigns isSignByte longSign signNumber longestSign signWidth same begins oneOf within firstTrue runFrom ended closed asksOperand onward passesAt nothingYet tallied longName tooMuch passedIn tokensWith tokensFrom passedAt
+unfolding passed build times scanAt scanRest scanFrom tokenFrom tokenBy nameFrom nameToken numberFrom numberToken bitsFrom bitsToken signFrom signHere signToken badToken isBit gapFrom isBlank isLetter isNameByte reserved wordOf digitOf isDigit valueFrom prefixed digitsOf longSigns isSignByte longSign signNumber longestSign signWidth same begins oneOf within firstTrue runFrom ended closed asksOperand onward passesAt nothingYet tallied longName tooMuch passedIn listed tokensFrom passedAt
 depths = refl
+
+-- sixty-four and sixty-five registers, a hundred and twenty-eight and twenty-nine variables
+pub declarations :
+    passed (((1, "device d(b:bit[8] port){") ∷ (64, "register r=b:bit[8];") ∷ (1, "}") ∷ [])
+    ∷ ((1, "device d(b:bit[8] port){") ∷ (65, "register r=b:bit[8];") ∷ (1, "}") ∷ [])
+    ∷ ((1, "device d(b:bit[8] port){") ∷ (128, "variable v=r:bool;") ∷ (1, "}") ∷ [])
+    ∷ ((1, "device d(b:bit[8] port){") ∷ (129, "variable v=r:bool;") ∷ (1, "}") ∷ []) ∷ [])
+    ≡ none ∷ some 1304 ∷ none ∷ some 2328 ∷ []
+unfolding passed build times scanAt scanRest scanFrom tokenFrom tokenBy nameFrom nameToken numberFrom numberToken bitsFrom bitsToken signFrom signHere signToken badToken isBit gapFrom isBlank isLetter isNameByte reserved wordOf digitOf isDigit valueFrom prefixed digitsOf longSigns isSignByte longSign signNumber longestSign signWidth same begins oneOf within firstTrue runFrom ended closed asksOperand onward passesAt nothingYet tallied longName tooMuch passedIn listed tokensFrom passedAt
+declarations = refl

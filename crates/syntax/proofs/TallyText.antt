@@ -1,6 +1,6 @@
 -- The reading of a whole text agrees with the count of sizes, whatever is made of its declarations.
 -- Assumes nothing.
-use Prim.Native.Nat.{ℕ, zero, suc, _+_}
+use Prim.Native.Nat.{ℕ, zero, suc, _+_, min}
 use native.Mathlib.Omega.{arith}
 use mathlib.Core.Path.{_≡_, refl, sym, ap, _∙_, subst}
 use mathlib.Core.Bool.{Bool, true, false, _||_}
@@ -9,6 +9,7 @@ use mathlib.Core.Option.{Option}
 use lib.Dec.{eqb, leb, ltb}
 use lib.ListN.{length, replicate}
 use borrow.Author.Tests.{leb-true, leb-false, lt-ltb, le-ltb}
+use Rattle.token.specs.Tokens.{tokensFrom, tokensAt}
 use Rattle.syntax.specs.declared.reader.Step.{Step}
 use Rattle.syntax.specs.declared.reader.Step.the-variants.{At, Refused}
 use Rattle.syntax.specs.declared.reader.Named.{Named}
@@ -20,7 +21,7 @@ use Rattle.syntax.specs.Register.{registerAfter}
 use Rattle.syntax.specs.Variable.{VariableRead, variableAfter}
 use Rattle.syntax.specs.Loop.{loopWith}
 use Rattle.syntax.specs.Text.{Declaration, aDevice, aParameter, aRegister, aVariable, Progress, begins, extraWord, movedTo, counted, taken, headWith, parameterWith, moreParameters, registerWith, variableWith, declarationWith, moreDeclarations, parametersWith, declarationsWith, readingWith, listed, reading}
-use Rattle.syntax.specs.Sizes.{Spot, front, parameter, body, register, piece, onward, passesAt, asksOperand, Tally, nothingYet, tallied, tooMuch, passedAt, Kept}
+use Rattle.syntax.specs.Sizes.{Spot, front, parameter, body, register, piece, onward, passesAt, asksOperand, Tally, nothingYet, tallied, tooMuch, passedIn, passedAt, Kept}
 use Rattle.syntax.proofs.LoopSteps.{loop-end, loop-on}
 use Rattle.syntax.proofs.Tally.{Agrees, refused-agrees, agrees-tok, agrees-past, agrees-name, agrees-extra, agrees-extra-name, agrees-end, or-false}
 use Rattle.syntax.proofs.TallyParameter.{agrees-parameter}
@@ -162,13 +163,18 @@ module _ {X : Type 0} (judge : X → Declaration → X) (text : List ℕ) (w : O
       (loop-keeps text (λ (q : Progress X). q .step) begins (declarationWith judge text) (λ q. At-spot (λ q. body) q) (λ q e i. declaration-agrees q i) (length text) (declarationWith judge text (movedTo p (fixedAfter text 379 (p .step))))
       (declaration-agrees (movedTo p (fixedAfter text 379 (p .step))) (agrees-tok text w 379 (tally (p .registers) (p .variables) body) refl refl refl (p .step) a)))
 
+-- at the start all the tokens are to come
+from-start : (text : List ℕ) → passedIn nothingYet (tokensAt text 0) ≡ passedAt text
+unfolding passedAt tokensAt
+from-start text = let here : min 0 (length text) ≡ 0 = omega arith in ap (λ (i : ℕ). passedIn nothingYet (tokensFrom text i 0)) here
+
 -- THE TEXT
 pub sizes-kept : {X : Type 0} (judge : X → Declaration → X) (text : List ℕ) (x : X) → Kept (passedAt text) (readingWith judge text x .step)
-unfolding readingWith movedTo passedAt nothingYet Agrees
+unfolding readingWith movedTo nothingYet Agrees tooMuch passesAt
 sizes-kept judge text x =
-    agrees-end text (passedAt text) _ _
+    agrees-end text (passedAt text) (tally judge text (passedAt text) _ _ body) refl _
     (body-agrees judge text (passedAt text) (parametersWith judge text (record { parameters = 0; registers = 0; variables = 0; made = x; step = At 0 }))
-    (heading-agrees judge text (passedAt text) (record { parameters = 0; registers = 0; variables = 0; made = x; step = At 0 }) refl refl))
+    (heading-agrees judge text (passedAt text) (record { parameters = 0; registers = 0; variables = 0; made = x; step = At 0 }) refl (from-start text)))
 
 pub reading-kept : (text : List ℕ) → Kept (passedAt text) (reading text .step)
 unfolding reading

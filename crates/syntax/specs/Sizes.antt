@@ -11,9 +11,9 @@ use lib.Dec.{eqb, ltb}
 use lib.ListN.{length}
 use Rattle.token.specs.declared.Token.{Token}
 use Rattle.token.specs.declared.Token.the-variants.{Name, Word, Number, Bits, Sign, End, Bad}
-use Rattle.token.specs.Fair.{placeOf, goesOn}
+use Rattle.token.specs.Fair.{placeOf}
 use Rattle.token.specs.Kind.{pick, kindOf}
-use Rattle.token.specs.Scan.{scanAt}
+use Rattle.token.specs.Tokens.{tokensOf}
 use Rattle.syntax.specs.declared.reader.Step.{Step}
 use Rattle.syntax.specs.declared.reader.Step.the-variants.{At, Refused}
 
@@ -145,24 +145,9 @@ unfoldable pub passedIn : Tally → List Token → Option ℕ
 passedIn c [] = none
 passedIn c (t ∷ ts) = elim (longName t || tooMuch c (kindOf t)) [ true ↦ some (placeOf t) | false ↦ passedIn (tallied c (kindOf t)) ts ]
 
--- ---- the tokens of a text
-
--- the tokens from a place on, so many at most; the end is none of them
-unfoldable pub tokensWith : ℕ → List ℕ → ℕ → List Token
-tokensWith zero text at = []
-tokensWith (suc most) text at =
-    elim (goesOn (scanAt text at .token)) [
-      | true ↦ scanAt text at .token ∷ tokensWith most text (scanAt text at .next)
-      | false ↦ []
-    ]
-
--- all of them: each takes a byte at least
-unfoldable pub tokensFrom : List ℕ → ℕ → List Token
-tokensFrom text at = tokensWith (suc (length text)) text at
-
 -- THE PLACE OF REFUSAL 5
 unfoldable pub passedAt : List ℕ → Option ℕ
-passedAt text = passedIn nothingYet (tokensFrom text 0)
+passedAt text = passedIn nothingYet (tokensOf text)
 
 -- ---- what a reading answers by it
 
