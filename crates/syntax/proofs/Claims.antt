@@ -1,4 +1,4 @@
--- The reader answers rightly: by the published grammar, in bytes.
+-- A reader that follows the grammar answers rightly by the published one, in bytes; the sizes aside.
 -- Assumes nothing.
 use Prim.Native.Nat.{ℕ, _<_}
 use native.Mathlib.Omega.{arith}
@@ -6,7 +6,6 @@ use mathlib.Core.Path.{_≡_, refl, sym, ap, _∙_, subst}
 use mathlib.Core.Bool.{Bool, true, false}
 use mathlib.Core.Logic.{_⊎_, inl, inr}
 use mathlib.Core.List.{List, [], _∷_}
-use mathlib.Core.Option.{Option, none, some, Option·none-ne-some, Option·some-injective}
 use lib.Dec.{eqb}
 use lib.ListN.{length}
 use borrow.Author.Tests.{eqb-true, eqb-false}
@@ -26,7 +25,7 @@ use Rattle.grammar.proofs.Verdicts.{whole-accepted, whole-left, whole-halted, a
 use Rattle.syntax.specs.declared.reader.Step.{Step}
 use Rattle.syntax.specs.declared.reader.Step.the-variants.{At, Refused}
 use Rattle.syntax.specs.Reader.{unexpected, fixedAfter}
-use Rattle.syntax.specs.Claim.{kindsOf, tokenNo, InLanguage, Stops, Passes, NonePassedBefore, Right}
+use Rattle.syntax.specs.Claim.{kindsOf, tokenNo, InLanguage, Stops}
 use Rattle.syntax.proofs.Source.{source, kindsAt, told, kinds-end, kinds-are, token-is}
 use Rattle.syntax.proofs.Follows.{Beyond, Fits, Follows, thenAt, stepOf}
 
@@ -123,54 +122,3 @@ module _ (text : List ℕ) where
       by s (inl (p, e, b)) =
           subst (λ (t : Step). ByGrammar (fixedAfter text 255 t)) (sym e) (inr (refl, before-stop p (thenAt text device-ll (At 0)) right b))
       by s (inr e) = subst (λ (t : Step). ByGrammar (fixedAfter text 255 t)) (sym e) right
-
-  -- ---- with the sizes
-
-  -- What the sizes say of an answer, the grammar aside: `passed` is where one is first passed.
-  unfoldable pub BySizes : Option ℕ → Step → Type 0
-  BySizes passed (At end) = passed ≡ none
-  BySizes passed (Refused number place) = ((number ≡ 5) × (passed ≡ some place)) ⊎ ((number ≡ 5 → ⊥) × NonePassedBefore passed place)
-
-  not-five : (t : Token) → refusedAs t ≡ 5 → ⊥
-  not-five (Name p n) e = omega arith
-  not-five (Word p n) e = omega arith
-  not-five (Number p v) e = omega arith
-  not-five (Bits p n) e = omega arith
-  not-five (Sign p s) e = omega arith
-  not-five (End p) e = omega arith
-  not-five (Bad p) e = omega arith
-
-  stops-not-five : (n p : ℕ) → Stops text n p → n ≡ 5 → ⊥
-  stops-not-five n p s e = not-five (tokenNo text (s .token)) (sym (s .number-is) ∙ e)
-
-  -- Both together are the claim.
-  pub both-right : (passed : Option ℕ) (s : Step) → ByGrammar s → BySizes passed s → Right text passed s
-  unfolding ByGrammar BySizes Right
-  both-right passed (At end) g z = (g .0, g .1, z)
-  both-right passed (Refused n p) (inl s) (inl z) = absurd (stops-not-five n p s (z .0))
-  both-right passed (Refused n p) (inl s) (inr z) = inl (s, z .1)
-  both-right passed (Refused n p) (inr g) (inl z) = inr (record { is-five = z .0; is-passed = z .1; earlier = g .1 })
-  both-right passed (Refused n p) (inr g) (inr z) = absurd (z .0 (g .0))
-
-  -- NO SECOND ANSWER IS RIGHT.
-  pub right-once : (passed : Option ℕ) (s t : Step) → Right text passed s → Right text passed t → s ≡ t
-  unfolding Right
-  right-once passed (At a) (At b) r q = ap At (r .0 ∙ sym (q .0))
-  right-once passed (At a) (Refused n p) r (inl q) = absurd (q .0 .stops .no-text (r .1))
-  right-once passed (At a) (Refused n p) r (inr q) = absurd (Option·none-ne-some _ (sym (r .2) ∙ q .is-passed))
-  right-once passed (Refused n p) (At b) (inl r) q = absurd (r .0 .stops .no-text (q .1))
-  right-once passed (Refused n p) (At b) (inr r) q = absurd (Option·none-ne-some _ (sym (q .2) ∙ r .is-passed))
-  right-once passed (Refused n p) (Refused m q) (inl r) (inl s) = let z = stops-once n p m q (r .0) (s .0) in rw (z .0, z .1)
-  right-once passed (Refused n p) (Refused m q) (inl r) (inr s) = absurd (apart passed p q n (r .0) (r .1) s)
-    where
-      apart : (passed : Option ℕ) (p q n : ℕ) → Stops text n p → NonePassedBefore passed p → Passes text passed m q → ⊥
-      apart none p q n r h s = Option·none-ne-some _ (s .is-passed)
-      apart (some z) p q n r h s = let e : z ≡ q = Option·some-injective _ _ (s .is-passed) in omega (arith, s .earlier n p r)
-  right-once passed (Refused n p) (Refused m q) (inr r) (inl s) = absurd (apart passed p q m (s .0) (s .1) r)
-    where
-      apart : (passed : Option ℕ) (p q m : ℕ) → Stops text m q → NonePassedBefore passed q → Passes text passed n p → ⊥
-      apart none p q m s h r = Option·none-ne-some _ (r .is-passed)
-      apart (some z) p q m s h r = let e : z ≡ p = Option·some-injective _ _ (r .is-passed) in omega (arith, r .earlier m q s)
-  right-once passed (Refused n p) (Refused m q) (inr r) (inr s) =
-      let z : p ≡ q = Option·some-injective _ _ (sym (r .is-passed) ∙ s .is-passed) in
-      rw (r .is-five, s .is-five, z)

@@ -1,11 +1,11 @@
 -- What reading a text comes to, in bytes, by the published grammar and the sizes of document 01: that it reads, or refusal 3, 4 or 5 with its place.
--- `proofs/Claims.antt` shows that the reader answers this, and that no second answer meets it.
-use Prim.Native.Nat.{ℕ, _≤_, _<_}
+-- `proofs/Answers.antt` shows that the reader answers this and nothing else.
+use Prim.Native.Nat.{ℕ, _<_}
 use mathlib.Core.Path.{_≡_}
 use mathlib.Core.Logic.{_⊎_}
 use mathlib.Core.Bool.{true, false}
 use mathlib.Core.List.{List, [], _∷_}
-use mathlib.Core.Option.{Option, none, some}
+use mathlib.Core.Option.{none, some}
 use lib.ListN.{length, getD}
 use Rattle.token.specs.declared.Token.{Token}
 use Rattle.token.specs.declared.Token.the-variants.{End}
@@ -16,6 +16,7 @@ use Rattle.grammar.specs.Grammar.{Text, StopsAt}
 use Rattle.grammar.specs.Devil.{published, device}
 use Rattle.syntax.specs.declared.reader.Step.{Step}
 use Rattle.syntax.specs.declared.reader.Step.the-variants.{At, Refused}
+use Rattle.syntax.specs.Sizes.{passedAt, NotBefore}
 
 -- the kinds of tokens, as the grammar names them, up to the end
 unfoldable pub kindsIn : List Token → List ℕ
@@ -41,18 +42,13 @@ pub record Stops (text : List ℕ) (number place : ℕ) : Type 0 where
   pub number-is : number ≡ refusedAs (tokenNo text token)
   pub place-is : place ≡ placeOf (tokenNo text token)
 
--- Refusal 5: a size is passed at the place, and the grammar goes on past it.
-pub record Passes (text : List ℕ) (passed : Option ℕ) (number place : ℕ) : Type 0 where
+-- Refusal 5: the place is that of the first token at which a size is passed, and the grammar goes on past it.
+pub record Passes (text : List ℕ) (number place : ℕ) : Type 0 where
   pub is-five : number ≡ 5
-  pub is-passed : passed ≡ some place
+  pub is-passed : passedAt text ≡ some place
   pub earlier : (n p : ℕ) → Stops text n p → place < p
 
--- no size is passed before the place
-abbrev pub NonePassedBefore : Option ℕ → ℕ → Type 0
-NonePassedBefore none place = Unit {0}
-NonePassedBefore (some p) place = place ≤ p
-
--- THE CLAIM. `passed` is the place where a size is first passed, if one is. The earliest place decides, and at one place the lower number.
-unfoldable pub Right : List ℕ → Option ℕ → Step → Type 0
-Right text passed (At end) = (end ≡ length text) × InLanguage text × (passed ≡ none)
-Right text passed (Refused number place) = (Stops text number place × NonePassedBefore passed place) ⊎ Passes text passed number place
+-- THE CLAIM. The earliest place decides, and at one place the lower number.
+unfoldable pub Right : List ℕ → Step → Type 0
+Right text (At end) = (end ≡ length text) × InLanguage text × (passedAt text ≡ none)
+Right text (Refused number place) = (Stops text number place × NotBefore (passedAt text) place) ⊎ Passes text number place
