@@ -31,9 +31,6 @@ struct Held {
     trigger: bool,
 }
 
-/// Bits of every register, one byte each.
-type BitMap = [u8; REGISTERS];
-
 /// The description so far, and what the rules need to remember of it.
 pub struct Judge<'t> {
     text: &'t [u8],
@@ -250,36 +247,28 @@ impl<'t> Judge<'t> {
         };
         let triggers = [attributes.read_trigger, attributes.write_trigger];
 
-        for (held, part) in self.held.iter().zip([&read, &write]) {
-            if let Some(part) = part {
-                if held
-                    .iter()
-                    .zip(&part.map)
-                    .any(|(held, bits)| held.bits & bits != 0)
-                {
-                    return refused(14, name);
-                }
+        let parts = || [&read, &write].into_iter().zip(triggers).enumerate();
+        for (index, (part, _)) in parts() {
+            let overlaps =
+                |piece: &Piece| self.held[index][piece.register].bits & taken(piece) != 0;
+            if part.iter().flat_map(|part| &part.pieces).any(overlaps) {
+                return refused(14, name);
             }
         }
-        for ((held, part), trigger) in self.held.iter().zip([&read, &write]).zip(triggers) {
-            if let Some(part) = part {
-                let shared = |(held, bits): (&Held, &u8)| {
-                    *bits != 0 && held.bits != 0 && (held.trigger || trigger)
-                };
-                if held.iter().zip(&part.map).any(shared) {
-                    return refused(15, name);
-                }
+        for (index, (part, trigger)) in parts() {
+            let shares = |piece: &Piece| {
+                let held = self.held[index][piece.register];
+                held.bits != 0 && (held.trigger || trigger)
+            };
+            if part.iter().flat_map(|part| &part.pieces).any(shares) {
+                return refused(15, name);
             }
         }
-
-        for ((held, part), trigger) in self.held.iter_mut().zip([&read, &write]).zip(triggers) {
-            if let Some(part) = part {
-                for (held, bits) in held.iter_mut().zip(&part.map) {
-                    if *bits != 0 {
-                        held.bits |= bits;
-                        held.trigger |= trigger;
-                    }
-                }
+        for (index, (part, trigger)) in parts() {
+            for piece in part.iter().flat_map(|part| &part.pieces) {
+                let held = &mut self.held[index][piece.register];
+                held.bits |= taken(piece);
+                held.trigger |= trigger;
             }
         }
         self.declare(name, Entity::Variable);
@@ -357,9 +346,9 @@ impl<'t> Judge<'t> {
     fn part_bits(&self, list: &ListText, registers: &[usize], part: Part) -> Option<PartBits> {
         let mut bits = PartBits {
             pieces: Vec::new(),
-            map: [0; REGISTERS],
             count: 0,
         };
+        let mut map = [0; REGISTERS];
         for ((_, ranges), &register) in list.registers.iter().zip(registers) {
             let dots = self.description.registers[register].part(part)?.mask.dots;
             let whole = [Range { first: 7, last: 0 }];
@@ -368,17 +357,17 @@ impl<'t> Judge<'t> {
                 if high > 7 || low > high {
                     return None;
                 }
-                let taken = ((2u32 << high) - (1 << low)) as u8;
-                if taken & !dots != 0 || bits.map[register] & taken != 0 {
-                    return None;
-                }
-                bits.map[register] |= taken;
-                bits.count += high - low + 1;
-                bits.pieces.push(Piece {
+                let piece = Piece {
                     register,
                     high,
                     low,
-                });
+                };
+                if taken(&piece) & !dots != 0 || map[register] & taken(&piece) != 0 {
+                    return None;
+                }
+                map[register] |= taken(&piece);
+                bits.count += high - low + 1;
+                bits.pieces.push(piece);
             }
         }
         if bits.count > 32 {
@@ -405,8 +394,12 @@ impl<'t> Judge<'t> {
 /// What one part of a variable takes.
 struct PartBits {
     pieces: Vec<Piece>,
-    map: BitMap,
     count: u32,
+}
+
+/// The bits of its register that a piece takes.
+fn taken(piece: &Piece) -> u8 {
+    ((2u32 << piece.high) - (1 << piece.low)) as u8
 }
 
 /// Rule 9 of the masks: the mask of the read part and that of the write part.

@@ -447,3 +447,140 @@ fn number(variable: &Variable, pattern: u32) -> i64 {
         value
     }
 }
+
+#[cfg(test)]
+mod tests {
+    use super::*;
+    use crate::load::{load, Verdict};
+    use crate::tables::tables;
+
+    const TEXT: &[u8] =
+        b"device d(b:bit[8] port@{0..1}){register r=b:bit[8];register s=b@1:bit[8];\
+        variable v=r#s:int(16);}";
+
+    fn words() -> [Vec<u32>; 3] {
+        match load(TEXT) {
+            Verdict::Accepted { description } => tables(&description).into(),
+            refused => panic!("{refused}"),
+        }
+    }
+
+    fn lent([parameters, registers, variables]: &[Vec<u32>; 3]) -> Tables<'_> {
+        Tables {
+            parameters,
+            registers,
+            variables,
+        }
+    }
+
+    /// All five calls over one state; each answer, with whether the state is as before.
+    fn all_calls(
+        tables: Tables,
+        record: &[u8],
+        marks: &[u8],
+        held: Operation,
+    ) -> Vec<(Answer, bool)> {
+        let mut answers = Vec::new();
+        for call in 0..5 {
+            let (mut r, mut m, mut o) = (record.to_vec(), marks.to_vec(), held);
+            let answer = match call {
+                0 => open(tables, &[1, 2], &mut r, &mut m, &mut o),
+                1 => begin_read(tables, &r, &m, &mut o, 0),
+                2 => begin_write(tables, &r, &m, &mut o, 0, 5),
+                3 => confirm(tables, &mut r, &mut m, &mut o, 0),
+                _ => abandon(tables, &r, &mut m, &mut o),
+            };
+            answers.push((answer, r == record && m == marks && o == held));
+        }
+        answers
+    }
+
+    #[test]
+    fn unsound_tables_come_first() {
+        let bad = Operation::Reading {
+            variable: 9,
+            step: 9,
+            gathered: 9,
+        };
+        for (table, word, value) in [(0, 0, 0), (1, 0, 0), (1, 4, 2), (2, 4, 15), (2, 7552, 1)] {
+            let mut words = words();
+            words[table][word] = value;
+            for (record, marks) in [(&[7, 7][..], &[0][..]), (&[], &[])] {
+                for held in [Operation::Idle, bad] {
+                    for answer in all_calls(lent(&words), record, marks, held) {
+                        assert_eq!(answer, (Answer::Refused(20), true));
+                    }
+                }
+            }
+        }
+        let short = Tables {
+            parameters: &[],
+            registers: &[],
+            variables: &[],
+        };
+        for answer in all_calls(short, &[], &[], Operation::Idle) {
+            assert_eq!(answer, (Answer::Refused(20), true));
+        }
+    }
+
+    #[test]
+    fn short_buffers_come_next() {
+        let words = words();
+        let bad = Operation::Writing {
+            variable: 0,
+            step: 2,
+            value: 0,
+        };
+        for (record, marks) in [(&[7][..], &[0][..]), (&[7, 7], &[]), (&[], &[])] {
+            for answer in all_calls(lent(&words), record, marks, bad) {
+                assert_eq!(answer, (Answer::Refused(21), true));
+            }
+        }
+        let answers = all_calls(lent(&words), &[7, 7], &[0], bad);
+        assert_eq!(answers[0], (Answer::Opened, false));
+        for answer in &answers[1..] {
+            assert_eq!(*answer, (Answer::Refused(22), true));
+        }
+    }
+
+    /// Bytes past what the tables need are left alone.
+    #[test]
+    fn longer_buffers() {
+        let words = words();
+        let (mut record, mut marks) = (vec![9; 5], vec![9; 4]);
+        let mut operation = Operation::Idle;
+        let tables = lent(&words);
+        let opened = open(
+            tables,
+            &[1, 2, 3, 4],
+            &mut record,
+            &mut marks,
+            &mut operation,
+        );
+        assert_eq!(opened, Answer::Opened);
+        assert_eq!(
+            (&record[..], &marks[..]),
+            (&[1, 2, 9, 9, 9][..], &[0, 9, 9, 9][..])
+        );
+        begin_write(tables, &record, &marks, &mut operation, 0, 0x1234);
+        confirm(tables, &mut record, &mut marks, &mut operation, 0);
+        abandon(tables, &record, &mut marks, &mut operation);
+        assert_eq!(
+            (&record[..], &marks[..]),
+            (&[0x12, 2, 9, 9, 9][..], &[1, 9, 9, 9][..])
+        );
+    }
+
+    /// Any mark but 0 is half-written.
+    #[test]
+    fn any_mark_counts() {
+        let words = words();
+        for (mark, want) in [(0, None), (1, Some(28)), (2, Some(28)), (255, Some(28))] {
+            let answer = begin_read(lent(&words), &[0, 0], &[mark], &mut Operation::Idle, 0);
+            match want {
+                Some(number) => assert_eq!(answer, Answer::Refused(number)),
+                None => assert!(matches!(answer, Answer::Offer(_))),
+            }
+        }
+    }
+}
