@@ -229,12 +229,9 @@ module _ {t : Tables} {power : List ℕ} (o : Opening t power) where
   unfolding after
   power-lost =
       record {
+        bytes-again = bytes-left;
         opens-again = λ calls performed lent long.
-            record {
-              lent = lent;
-              accepted = reopened (readBack t (leftBy t performed (worldAfter o calls))) lent (length-listed (registerCount t) (leftBy t performed (worldAfter o calls))) long;
-              bytes = bytes-left calls performed;
-            };
+            reopened (readBack t (leftBy t performed (worldAfter o calls))) lent (length-listed (registerCount t) (leftBy t performed (worldAfter o calls))) long;
         settled-known = λ calls performed again v plain settled.
             let still = step-settled sound t (powerOn power) (Abandon performed) (worldAfter o calls) v settled refl in
             start-due again v

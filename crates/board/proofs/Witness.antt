@@ -1,66 +1,269 @@
--- The scoring board (boards/scoring.devil) as tables of full size: refusal 20's own test accepts them.
+-- Demand 3 and what goes beyond it, on the scoring board: every premise is met, and what is said is computed as well.
 -- Assumes nothing.
-use Prim.Native.Nat.{ℕ, zero, suc, _-_, _*_, _<_}
-use mathlib.Core.Path.{_≡_, refl}
-use mathlib.Core.Bool.{Bool, true, false}
+use Prim.Native.Nat.{ℕ, zero, suc, _<_}
+use mathlib.Core.Path.{_≡_, refl, sym, ap, ap₂, _∙_, subst}
+use mathlib.Core.Logic.{inl, inr}
+use mathlib.Core.Bool.{Bool, true, false, not, true≢false, false≢true}
 use mathlib.Core.List.{List, [], _∷_, _++_}
-use lib.ListN.{length, replicate}
-use Rattle.bits.specs.Bits.{bit}
-use Rattle.tables.specs.Every.{every, some, zerosFront}
-use Rattle.tables.specs.Marks.{joined, downFrom, has, meets, distinct}
-use Rattle.tables.specs.Rules.{rangesFit, parameterFault, parameterShape, offsetIn, placed, placeTaken, registerFault, registerPartShape, registerShape, onDots, pieceFits, partMaps, widthFits, typeFits, volatileFits, ownFault, variablePartShape, variableShape, mappedBefore, triggerShared, covered}
-use Rattle.tables.specs.Sound.{tablesFit, restZero, shapesFit, variableFault, rulesKept}
-use Rattle.tables.specs.Sound as S
-use Rattle.tables.specs.View.{Tables, sound}
+use native.Mathlib.Nat.{not-suc-le-zero, le-of-suc-le-suc}
+use native.Mathlib.Omega.{arith}
+use lib.IntN.{ℤ, pos, negsuc}
+use lib.ListN.{length, getD, replicate}
+use Rattle.tables.specs.declared.Part.{Part}
+use Rattle.tables.specs.declared.Part.the-variants.{Read as reading, Write as writing}
+use Rattle.tables.specs.Marks.{joined, downFrom}
+use Rattle.tables.specs.View.{Tables, sound, Plain, Among, isVolatile, isTrigger, registerCount, registerWidth, registerHas, parameterOf, offsetOf, isDot, isOne, variableCount, kindOf, variableHas, bitsOf, size, placeOf, without, mentions, registersOf}
+use Rattle.station.specs.declared.Operation.the-variants.{Idle}
+use Rattle.station.specs.declared.Answer.{Answer}
+use Rattle.station.specs.declared.Answer.the-variants.{Refused, Opened, Offer as Offered, Done}
+use Rattle.bits.specs.Bits.{bit, numberOf}
+use Rattle.bits.specs.Values.{inRange, encode, decode}
+use Rattle.station.specs.Calls.{State, stepsOf, unless, isLong, isUnderway, isRead, isGathered, isAllowed, ownBit, otherBit, settingsBit, settingsByte, writtenByte, gatheredBit, gather, opening}
+use Rattle.board.specs.Board.{Cells, World, Call, BeginRead, BeginWrite, Confirm, Abandon, put, answers, lastWhere, reached, step, after, opened, wholeRead, wholeWrite}
+use Rattle.board.specs.Demand.{Opening, worldAfter, writesOf, Work, EqualBoards}
+use Rattle.board.specs.Stops.{leftBy, listed, readBack, midWrite}
+use Rattle.board.proofs.Demand3.{demand-3}
+use Rattle.board.proofs.Stops.{power-lost}
+use Rattle.board.proofs.Scoring.{scoring, scoring-sound}
 
--- ── the words of an entry ──
+-- ── sound tables pass refusal 20 at every call: so a run is computed with that test passed ──
 
--- a register's part at an offset of the one parameter, with its mask; an absent part
-abbrev part : (offset dots fixed ones : ℕ) → List ℕ
-part offset dots fixed ones = 1 ∷ 0 ∷ offset ∷ dots ∷ fixed ∷ ones ∷ []
+abbrev passed : Tables → Bool
+passed t = true
 
-abbrev noPart : List ℕ
-noPart = replicate 6 0
+module _ (t : Tables) (ok : sound t ≡ true) where
+  step-passed : (call : Call) (w : World) → step sound t call w ≡ step passed t call w
+  unfolding unless
+  step-passed (BeginRead v) w = rw ok
+  step-passed (BeginWrite v z) w = rw ok
+  step-passed (Confirm any) w = rw ok
+  step-passed (Abandon performed) w = rw ok
 
-abbrev register : (read write : List ℕ) → List ℕ
-register read write = 0 ∷ 1 ∷ 8 ∷ read ++ write
+  after-passed : (calls : List Call) (w : World) → after sound t calls w ≡ after passed t calls w
+  unfolding after
+  after-passed [] w = refl
+  after-passed (call ∷ calls) w = after-passed calls (step sound t call w) ∙ ap (after passed t calls) (step-passed call w)
 
--- a variable's part of one piece, of two; an absent one
-abbrev piece : (r high low : ℕ) → List ℕ
-piece r high low = 1 ∷ 0 ∷ 1 ∷ r ∷ high ∷ low ∷ replicate 21 0
+  opened-passed : (power : List ℕ) (s : State) → opened sound t power s ≡ opened passed t power s
+  unfolding unless
+  opened-passed power s = rw ok
 
-abbrev pieces : (r high low s high′ low′ : ℕ) → List ℕ
-pieces r high low s high′ low′ = 1 ∷ 0 ∷ 2 ∷ r ∷ high ∷ low ∷ s ∷ high′ ∷ low′ ∷ replicate 18 0
+  pub world-passed : {power : List ℕ} (o : Opening t power) (calls : List Call) → worldAfter o calls ≡ after passed t calls (opened passed t power (o .lent))
+  world-passed {power} o calls = after-passed calls (opened sound t power (o .lent)) ∙ ap (after passed t calls) (opened-passed power (o .lent))
 
-abbrev noPieces : List ℕ
-noPieces = replicate 27 0
+-- ── an opening ──
 
-abbrev variable : (kind width volatile : ℕ) (read write : List ℕ) → List ℕ
-variable kind width volatile read write = 0 ∷ 1 ∷ kind ∷ width ∷ volatile ∷ read ++ write
+-- score 0x734, row 5, seat 12; the high register's unused bits are not zero
+abbrev power : List ℕ
+power = 0xA7 ∷ 0x34 ∷ 0x5C ∷ 0x7C ∷ 0x00 ∷ []
 
--- ── the scoring board ──
+abbrev lent : State
+lent = record { kept = replicate 5 0; marks = replicate 6 0; operation = Idle }
 
-unfoldable pub scoring : Tables
-scoring =
+accepted : opening sound scoring power lent .answer ≡ Opened
+unfolding unless isLong registerCount variableCount scoring
+accepted = rw scoring-sound
+
+power-bytes : (r : ℕ) → getD power r 0 < 256
+power-bytes zero = omega arith
+power-bytes (suc zero) = omega arith
+power-bytes (suc (suc zero)) = omega arith
+power-bytes (suc (suc (suc zero))) = omega arith
+power-bytes (suc (suc (suc (suc zero)))) = omega arith
+power-bytes (suc (suc (suc (suc (suc r))))) = omega arith
+
+start : Opening scoring power
+start = record { lent = lent; accepted = accepted; bytes = power-bytes }
+
+-- ── the plain variables are the score, the row and the seat ──
+
+below-three : (P : ℕ → Type 0) → P 0 → P 1 → P 2 → (v : ℕ) → v < 3 → P v
+below-three P at-0 at-1 at-2 zero h = at-0
+below-three P at-0 at-1 at-2 (suc zero) h = at-1
+below-three P at-0 at-1 at-2 (suc (suc zero)) h = at-2
+below-three P at-0 at-1 at-2 (suc (suc (suc v))) h = absurd (not-suc-le-zero (le-of-suc-le-suc (le-of-suc-le-suc (le-of-suc-le-suc h))))
+
+plain : (v : ℕ) → v < 3 → Plain scoring v
+unfolding scoring variableCount isVolatile isTrigger variableHas joined downFrom bitsOf
+plain v h =
     record {
-      parameters = 1 ∷ 0 ∷ 1 ∷ 8 ∷ 1 ∷ 0 ∷ 3 ∷ replicate 570 0;
-      registers = 5
-          ∷ register (part 0 0x0F 0 0) (part 0 0x0F 0 0)
-          ++ register (part 1 0xFF 0 0) (part 1 0xFF 0 0)
-          ++ register (part 2 0xFF 0 0) (part 2 0xFF 0 0)
-          ++ register (part 3 0x7C 0x80 0) noPart
-          ++ register noPart (part 3 0x01 0xFE 0)
-          ++ replicate 885 0;
-      variables = 6
-          ∷ variable 0 12 0 (pieces 0 3 0 1 7 0) (pieces 0 3 0 1 7 0)
-          ++ variable 0 4 0 (piece 2 7 4) (piece 2 7 4)
-          ++ variable 0 4 0 (piece 2 3 0) (piece 2 3 0)
-          ++ variable 2 1 1 (piece 3 6 6) noPieces
-          ++ variable 0 4 1 (piece 3 5 2) noPieces
-          ++ variable 2 1 0 noPieces (piece 4 0 0)
-          ++ replicate 7198 0;
+      exists = omega arith;
+      steady = below-three (λ u. isVolatile scoring u ≡ false) refl refl refl v h;
+      quiet = elim [
+        | reading ↦ below-three (λ u. isTrigger scoring reading u ≡ false) refl refl refl v h
+        | writing ↦ below-three (λ u. isTrigger scoring writing u ≡ false) refl refl refl v h
+      ];
+      whole = elim [
+        | reading ↦ below-three (λ u. variableHas scoring reading u ≡ true) refl refl refl v h
+        | writing ↦ below-three (λ u. variableHas scoring writing u ≡ true) refl refl refl v h
+      ];
+      same-bits = below-three (λ u. bitsOf scoring reading u ≡ bitsOf scoring writing u) refl refl refl v h;
     }
 
-pub scoring-sound : sound scoring ≡ true
-unfolding bit sound S.sound scoring tablesFit restZero zerosFront shapesFit rulesKept every some parameterShape registerShape registerPartShape variableShape variablePartShape parameterFault rangesFit registerFault placed offsetIn placeTaken variableFault ownFault partMaps pieceFits onDots joined downFrom distinct has meets typeFits widthFits volatileFits mappedBefore triggerShared covered
-scoring-sound = refl
+-- two are volatile, and the last can only be written
+only-these : (v : ℕ) → Plain scoring v → v < 3
+unfolding scoring variableCount isVolatile variableHas
+only-these zero p = omega arith
+only-these (suc zero) p = omega arith
+only-these (suc (suc zero)) p = omega arith
+only-these (suc (suc (suc zero))) p = absurd (true≢false (p .steady))
+only-these (suc (suc (suc (suc zero)))) p = absurd (true≢false (p .steady))
+only-these (suc (suc (suc (suc (suc zero))))) p = absurd (false≢true (p .whole reading))
+only-these (suc (suc (suc (suc (suc (suc v)))))) p = let h = p .exists in absurd (omega arith)
+
+-- ── two boards ──
+
+-- the values of one board, by variable; 7 is what each confirmation of a write brings, and is ignored
+abbrev valued : (score row seat : ℕ) → ℕ → ℤ
+valued score row seat zero = pos score
+valued score row seat (suc zero) = pos row
+valued score row seat (suc (suc v)) = pos seat
+
+abbrev sevens : ℕ → List ℕ
+sevens zero = 7 ∷ 7 ∷ []
+sevens (suc v) = 7 ∷ []
+
+steps : (v : ℕ) → v < 3 → length (sevens v) ≡ stepsOf scoring writing v
+unfolding scoring registersOf mentions without joined downFrom bitsOf
+steps = below-three (λ v. length (sevens v) ≡ stepsOf scoring writing v) refl refl refl
+
+work : (score row seat : ℕ) (order : List ℕ) → ((v : ℕ) → v < 3 → Among v order) → ((v : ℕ) → Among v order → v < 3)
+    → ((v : ℕ) → v < 3 → inRange (kindOf scoring v) (size scoring writing v) (valued score row seat v) ≡ true)
+    → Work scoring (valued score row seat) sevens order
+work score row seat order every only fits =
+    record {
+      every = λ v p. every v (only-these v p);
+      only = λ v here. plain v (only v here);
+      fits = λ v p. fits v (only-these v p);
+      enough = λ v p. steps v (only-these v p);
+    }
+
+-- score 0xABC, row 3, seat 9, in that order; and score 0xABD with the same row and seat, in another order
+first-work : Work scoring (valued 0xABC 3 9) sevens (0 ∷ 1 ∷ 2 ∷ [])
+unfolding scoring inRange kindOf size joined downFrom bitsOf
+first-work =
+    work 0xABC 3 9 (0 ∷ 1 ∷ 2 ∷ []) (below-three (λ v. Among v (0 ∷ 1 ∷ 2 ∷ [])) (inl refl) (inr (inl refl)) (inr (inr (inl refl)))) in-order
+    (below-three (λ v. inRange (kindOf scoring v) (size scoring writing v) (valued 0xABC 3 9 v) ≡ true) refl refl refl)
+  where
+    in-order : (v : ℕ) → Among v (0 ∷ 1 ∷ 2 ∷ []) → v < 3
+    in-order v (inl e) = omega arith
+    in-order v (inr (inl e)) = omega arith
+    in-order v (inr (inr (inl e))) = omega arith
+    in-order v (inr (inr (inr e))) = absurd e
+
+second-work : Work scoring (valued 0xABD 3 9) sevens (2 ∷ 0 ∷ 1 ∷ [])
+unfolding scoring inRange kindOf size joined downFrom bitsOf
+second-work =
+    work 0xABD 3 9 (2 ∷ 0 ∷ 1 ∷ []) (below-three (λ v. Among v (2 ∷ 0 ∷ 1 ∷ [])) (inr (inl refl)) (inr (inr (inl refl))) (inl refl)) in-order
+    (below-three (λ v. inRange (kindOf scoring v) (size scoring writing v) (valued 0xABD 3 9 v) ≡ true) refl refl refl)
+  where
+    in-order : (v : ℕ) → Among v (2 ∷ 0 ∷ 1 ∷ []) → v < 3
+    in-order v (inl e) = omega arith
+    in-order v (inr (inl e)) = omega arith
+    in-order v (inr (inr (inl e))) = omega arith
+    in-order v (inr (inr (inr e))) = absurd e
+
+abbrev firstCalls : List Call
+firstCalls = writesOf (valued 0xABC 3 9) sevens (0 ∷ 1 ∷ 2 ∷ [])
+
+abbrev secondCalls : List Call
+secondCalls = writesOf (valued 0xABD 3 9) sevens (2 ∷ 0 ∷ 1 ∷ [])
+
+abbrev naturalOf : ℤ → ℕ
+naturalOf (pos n) = n
+naturalOf (negsuc n) = 0
+
+-- by the theorem they end unequal, since the values are
+boards-differ : EqualBoards scoring (worldAfter start firstCalls) (worldAfter start secondCalls) → ⊥
+boards-differ same =
+    let e = demand-3 scoring power .two-boards start start _ _ _ _ _ _ first-work second-work .0 same 0 (plain 0 (omega arith)) in
+    unlike (ap naturalOf e)
+  where
+    unlike : _≡_ {A = ℕ} 0xABC 0xABD → ⊥
+    unlike e = omega arith
+
+-- ── and by computation ──
+
+run : List Call → World
+run calls = after passed scoring calls (opened passed scoring power lent)
+
+run-is : (calls : List Call) → worldAfter start calls ≡ run calls
+unfolding run start
+run-is calls = world-passed scoring scoring-sound start calls
+
+left : List Call → List ℕ
+left calls = readBack scoring (worldAfter start calls .cells)
+
+boards-are : (left firstCalls ∷ left secondCalls ∷ []) ≡ (0x0A ∷ 0xBC ∷ 0x39 ∷ 0x7C ∷ 0x00 ∷ []) ∷ (0x0A ∷ 0xBD ∷ 0x39 ∷ 0x7C ∷ 0x00 ∷ []) ∷ []
+unfolding left run scoring listed writesOf after unless isLong isUnderway isRead isGathered isAllowed inRange encode decode variableCount registerCount registerWidth registerHas parameterOf offsetOf isDot isOne kindOf variableHas joined downFrom bitsOf size placeOf without mentions registersOf bit numberOf ownBit otherBit settingsBit settingsByte writtenByte gatheredBit gather put answers lastWhere reached
+boards-are =
+    ap₂ (λ (w u : World). readBack scoring (w .cells) ∷ readBack scoring (u .cells) ∷ []) (run-is firstCalls) (run-is secondCalls)
+
+-- the score at power-on; the accident, a stop between its two registers, whatever became of the second; the seat after the row's write was abandoned;
+-- the score when it was written again
+abbrev stopped : Bool → List Call
+stopped performed = BeginWrite 0 (pos 0x123) ∷ Confirm 7 ∷ Abandon performed ∷ []
+
+told : List Answer
+told =
+    worldAfter start (wholeRead 0 (7 ∷ 7 ∷ [])) .answer
+    ∷ worldAfter start (stopped true ++ (BeginRead 0 ∷ [])) .answer
+    ∷ worldAfter start (stopped false ++ (BeginRead 0 ∷ [])) .answer
+    ∷ worldAfter start (BeginWrite 1 (pos 9) ∷ Abandon true ∷ wholeRead 2 (7 ∷ [])) .answer
+    ∷ worldAfter start (stopped true ++ wholeWrite 0 (pos 0x456) (7 ∷ 7 ∷ []) ++ wholeRead 0 (7 ∷ 7 ∷ [])) .answer
+    ∷ []
+
+ran : List Answer
+ran =
+    run (wholeRead 0 (7 ∷ 7 ∷ [])) .answer
+    ∷ run (stopped true ++ (BeginRead 0 ∷ [])) .answer
+    ∷ run (stopped false ++ (BeginRead 0 ∷ [])) .answer
+    ∷ run (BeginWrite 1 (pos 9) ∷ Abandon true ∷ wholeRead 2 (7 ∷ [])) .answer
+    ∷ run (stopped true ++ wholeWrite 0 (pos 0x456) (7 ∷ 7 ∷ []) ++ wholeRead 0 (7 ∷ 7 ∷ [])) .answer
+    ∷ []
+
+told-is : told ≡ ran
+unfolding told ran
+told-is =
+    rw (
+      run-is (wholeRead 0 (7 ∷ 7 ∷ [])),
+      run-is (stopped true ++ (BeginRead 0 ∷ [])),
+      run-is (stopped false ++ (BeginRead 0 ∷ [])),
+      run-is (BeginWrite 1 (pos 9) ∷ Abandon true ∷ wholeRead 2 (7 ∷ [])),
+      run-is (stopped true ++ wholeWrite 0 (pos 0x456) (7 ∷ 7 ∷ []) ++ wholeRead 0 (7 ∷ 7 ∷ [])),
+    )
+
+ran-is : ran ≡ Done (pos 0x734) 2 ∷ Refused 28 ∷ Refused 28 ∷ Done (pos 12) 1 ∷ Done (pos 0x456) 2 ∷ []
+unfolding ran run scoring after unless isLong isUnderway isRead isGathered isAllowed inRange encode decode variableCount registerCount registerWidth registerHas parameterOf offsetOf isDot isOne kindOf variableHas joined downFrom bitsOf size placeOf without mentions registersOf bit numberOf ownBit otherBit settingsBit settingsByte writtenByte gatheredBit gather put answers lastWhere reached
+ran-is = refl
+
+-- ── power lost between the two registers of a score: what was 0x123 and was to be 0x456 reads as neither ──
+
+abbrev lostCalls : List Call
+lostCalls = wholeWrite 0 (pos 0x123) (7 ∷ 7 ∷ []) ++ (BeginWrite 0 (pos 0x456) ∷ Confirm 7 ∷ [])
+
+abbrev lostPower : List ℕ
+lostPower = readBack scoring (leftBy scoring false (worldAfter start lostCalls))
+
+lost-is : lostPower ≡ 0x04 ∷ 0x23 ∷ 0x5C ∷ 0x7C ∷ 0x00 ∷ []
+unfolding run scoring listed after unless isLong isUnderway isRead isGathered isAllowed inRange encode decode variableCount registerCount registerWidth registerHas parameterOf offsetOf isDot isOne kindOf variableHas joined downFrom bitsOf size placeOf without mentions registersOf bit numberOf ownBit otherBit settingsBit settingsByte writtenByte gatheredBit gather put answers lastWhere reached
+lost-is = ap (λ (w : World). readBack scoring (leftBy scoring false w)) (run-is lostCalls)
+
+again-long : isLong scoring lent ≡ true
+unfolding isLong scoring registerCount variableCount
+again-long = refl
+
+again : Opening scoring lostPower
+again =
+    record {
+      lent = lent;
+      accepted = power-lost start .opens-again lostCalls false lent again-long;
+      bytes = power-lost start .bytes-again lostCalls false;
+    }
+
+neither : after sound scoring (wholeRead 0 (7 ∷ 7 ∷ [])) (worldAfter again []) .answer ≡ Done (pos 0x423) 2
+unfolding again scoring after unless isLong isUnderway isRead isGathered isAllowed inRange encode decode variableCount registerCount registerWidth registerHas parameterOf offsetOf isDot isOne kindOf variableHas joined downFrom bitsOf size placeOf without mentions registersOf bit numberOf ownBit otherBit settingsBit settingsByte writtenByte gatheredBit gather put answers lastWhere reached
+neither =
+    ap (λ (w : World). w .answer) (after-passed scoring scoring-sound (wholeRead 0 (7 ∷ 7 ∷ [])) (opened sound scoring lostPower lent))
+    ∙ ap (λ (w : World). after passed scoring (wholeRead 0 (7 ∷ 7 ∷ [])) w .answer) (opened-passed scoring scoring-sound lostPower lent)
+    ∙ ap (λ (bytes : List ℕ). after passed scoring (wholeRead 0 (7 ∷ 7 ∷ [])) (opened passed scoring bytes lent) .answer) lost-is

@@ -114,9 +114,10 @@ abbrev pub mixed : Tables → ℕ → List ℕ → (new old : ℕ) → ℕ
 mixed t v registers new old = numberOf (size t writing v) (λ j. cond (isAmong (homeOf t writing v j) registers) (bit j new) (bit j old))
 
 pub record PowerLost (t : Tables) (power : List ℕ) (o : Opening t power) : Type 0 where
-  -- whenever it happens, what is read back opens the station again
+  -- whenever it happens, what is read back are bytes, and they open the station again
+  pub bytes-again : (calls : List Call) (performed : Bool) (r : ℕ) → getD (readBack t (leftBy t performed (worldAfter o calls))) r 0 < 256
   pub opens-again : (calls : List Call) (performed : Bool) (lent : State) → isLong t lent ≡ true
-      → Opening t (readBack t (leftBy t performed (worldAfter o calls)))
+      → opening sound t (readBack t (leftBy t performed (worldAfter o calls))) lent .answer ≡ Opened
   -- a plain variable that was settled reads as before: as its last finished value, or its first power-on bits
   pub settled-known : (calls : List Call) (performed : Bool) (again : Opening t (readBack t (leftBy t performed (worldAfter o calls)))) (v : ℕ)
       → Plain t v → Settled (worldAfter o calls) v → dueAfter again [] v ≡ dueAfter o calls v
