@@ -11,7 +11,7 @@ use crate::description::{
 };
 use crate::load::Refusal;
 use crate::syntax::{
-    Attribute, ListText, MaskText, ParameterText, PortText, Range, RegisterText, TypeText,
+    Attribute, ListText, MaskText, ParameterText, PieceText, PortText, RegisterText, TypeText,
     VariableText, REGISTERS,
 };
 
@@ -218,13 +218,20 @@ impl<'t> Judge<'t> {
         let name = variable.name;
         self.undeclared(name)?;
 
-        let first = self.list_registers(&variable.first)?;
+        let first = self.list_pieces(&variable.first)?;
         let second = match &variable.second {
-            Some(list) => Some(self.list_registers(list)?),
+            Some(list) => Some(self.list_pieces(list)?),
             None => None,
         };
 
-        let Some([read, write]) = self.parts(&variable, &first, second.as_deref()) else {
+        let modifiers = (
+            variable.first.modifier,
+            variable.second.as_ref().map(|list| list.modifier),
+        );
+        let Some([read, write]) = self.parts(modifiers, first, second) else {
+            return refused(11, name);
+        };
+        let Some(widths) = self.widths([&read, &write]) else {
             return refused(11, name);
         };
 
@@ -233,11 +240,7 @@ impl<'t> Judge<'t> {
             TypeText::SignedInt(width) => (Kind::Signed, width),
             TypeText::Bool => (Kind::Bool, 1),
         };
-        if [&read, &write]
-            .into_iter()
-            .flatten()
-            .any(|part| part.count != width)
-        {
+        if widths.into_iter().flatten().any(|bits| bits != width) {
             return refused(12, name);
         }
 
@@ -251,7 +254,7 @@ impl<'t> Judge<'t> {
         for (index, (part, _)) in parts() {
             let overlaps =
                 |piece: &Piece| self.held[index][piece.register].bits & taken(piece) != 0;
-            if part.iter().flat_map(|part| &part.pieces).any(overlaps) {
+            if part.iter().flatten().any(overlaps) {
                 return refused(14, name);
             }
         }
@@ -260,24 +263,19 @@ impl<'t> Judge<'t> {
                 let held = self.held[index][piece.register];
                 held.bits != 0 && (held.trigger || trigger)
             };
-            if part.iter().flat_map(|part| &part.pieces).any(shares) {
+            if part.iter().flatten().any(shares) {
                 return refused(15, name);
             }
         }
         for (index, (part, trigger)) in parts() {
-            for piece in part.iter().flat_map(|part| &part.pieces) {
+            for piece in part.iter().flatten() {
                 let held = &mut self.held[index][piece.register];
                 held.bits |= taken(piece);
                 held.trigger |= trigger;
             }
         }
         self.declare(name, Entity::Variable);
-        let bits = |part: Option<PartBits>, trigger| {
-            part.map(|part| Bits {
-                trigger,
-                pieces: part.pieces,
-            })
-        };
+        let bits = |part: Option<Vec<Piece>>, trigger| part.map(|pieces| Bits { trigger, pieces });
         self.description.variables.push(Variable {
             name,
             kind,
@@ -290,90 +288,79 @@ impl<'t> Judge<'t> {
     }
 
     /// Rule 7 of a bit list: its names are those of earlier registers.
-    fn list_registers(&self, list: &ListText) -> Judged<Vec<usize>> {
-        list.registers
-            .iter()
-            .map(|(name, _)| match self.names.get(name.of(self.text)) {
-                Some(Entity::Register(index)) => Ok(*index),
-                _ => refused(7, *name),
-            })
-            .collect()
+    fn list_pieces(&self, list: &ListText) -> Judged<Vec<Piece>> {
+        let piece = |text: &PieceText| match self.names.get(text.register.of(self.text)) {
+            Some(Entity::Register(register)) => Ok(Piece {
+                register: *register,
+                high: text.bits.first,
+                low: text.bits.last,
+            }),
+            _ => refused(7, text.register),
+        };
+        list.pieces.iter().map(piece).collect()
     }
 
-    /// Rule 11: the read part and the write part that the bit lists give, or `None`.
+    /// Rule 11, the pairing: the pieces of the read part and of the write part.
     fn parts(
         &self,
-        variable: &VariableText,
-        first: &[usize],
-        second: Option<&[usize]>,
-    ) -> Option<[Option<PartBits>; 2]> {
-        let modifiers = (
-            variable.first.modifier,
-            variable.second.as_ref().map(|list| list.modifier),
-        );
-        let one = |part| self.part_bits(&variable.first, first, part);
-        let other = |part| self.part_bits(variable.second.as_ref()?, second?, part);
+        modifiers: (Option<Part>, Option<Option<Part>>),
+        first: Vec<Piece>,
+        second: Option<Vec<Piece>>,
+    ) -> Option<[Option<Vec<Piece>>; 2]> {
         Some(match pairing(modifiers.0, modifiers.1)? {
-            Pairing::One(Part::Read) => [Some(one(Part::Read)?), None],
-            Pairing::One(Part::Write) => [None, Some(one(Part::Write)?)],
-            Pairing::Each(Part::Read) => [Some(one(Part::Read)?), Some(other(Part::Write)?)],
-            Pairing::Each(Part::Write) => [Some(other(Part::Read)?), Some(one(Part::Write)?)],
+            Pairing::One(Part::Read) => [Some(first), None],
+            Pairing::One(Part::Write) => [None, Some(first)],
+            Pairing::Each(Part::Read) => [Some(first), second],
+            Pairing::Each(Part::Write) => [second, Some(first)],
             Pairing::Both => {
                 let given = |part| {
-                    let has =
-                        |&index: &usize| self.description.registers[index].part(part).is_some();
-                    first.iter().all(has)
+                    let registers = &self.description.registers;
+                    first
+                        .iter()
+                        .all(|piece| registers[piece.register].part(part).is_some())
                 };
-                let read = if given(Part::Read) {
-                    Some(one(Part::Read)?)
-                } else {
-                    None
-                };
-                let write = if given(Part::Write) {
-                    Some(one(Part::Write)?)
-                } else {
-                    None
-                };
-                if read.is_none() && write.is_none() {
-                    return None;
+                match (given(Part::Read), given(Part::Write)) {
+                    (true, true) => [Some(first.clone()), Some(first)],
+                    (true, false) => [Some(first), None],
+                    (false, true) => [None, Some(first)],
+                    (false, false) => return None,
                 }
-                [read, write]
             }
         })
     }
 
-    /// The bits that a list takes in one part, if each is a dot there and none comes twice.
-    fn part_bits(&self, list: &ListText, registers: &[usize], part: Part) -> Option<PartBits> {
-        let mut bits = PartBits {
-            pieces: Vec::new(),
-            count: 0,
-        };
-        let mut map = [0; REGISTERS];
-        for ((_, ranges), &register) in list.registers.iter().zip(registers) {
-            let dots = self.description.registers[register].part(part)?.mask.dots;
-            let whole = [Range { first: 7, last: 0 }];
-            for range in ranges.as_deref().unwrap_or(&whole) {
-                let (high, low) = (range.first, range.last);
-                if high > 7 || low > high {
-                    return None;
-                }
-                let piece = Piece {
-                    register,
-                    high,
-                    low,
-                };
-                if taken(&piece) & !dots != 0 || map[register] & taken(&piece) != 0 {
-                    return None;
-                }
-                map[register] |= taken(&piece);
-                bits.count += high - low + 1;
-                bits.pieces.push(piece);
+    /// Rule 11, the bits: how many each part has.
+    fn widths(&self, parts: [&Option<Vec<Piece>>; 2]) -> Option<[Option<u32>; 2]> {
+        let mut widths = [None, None];
+        for ((part, pieces), width) in PARTS.into_iter().zip(parts).zip(&mut widths) {
+            if let Some(pieces) = pieces {
+                *width = Some(self.width(part, pieces)?);
             }
         }
-        if bits.count > 32 {
-            return None;
+        Some(widths)
+    }
+
+    /// The number of bits, if it is 32 at most, each is a dot in that part's mask, and none comes
+    /// twice.
+    fn width(&self, part: Part, pieces: &[Piece]) -> Option<u32> {
+        let mut width = 0;
+        let mut map = [0; REGISTERS];
+        for piece in pieces {
+            let dots = self.description.registers[piece.register]
+                .part(part)?
+                .mask
+                .dots;
+            if piece.high > 7 || piece.low > piece.high {
+                return None;
+            }
+            let bits = taken(piece);
+            if bits & !dots != 0 || bits & map[piece.register] != 0 {
+                return None;
+            }
+            map[piece.register] |= bits;
+            width += piece.high - piece.low + 1;
         }
-        Some(bits)
+        (width <= 32).then_some(width)
     }
 
     /// Rule 16, and then the description.
@@ -389,12 +376,6 @@ impl<'t> Judge<'t> {
         }
         Ok(self.description)
     }
-}
-
-/// What one part of a variable takes.
-struct PartBits {
-    pieces: Vec<Piece>,
-    count: u32,
 }
 
 /// The bits of its register that a piece takes.

@@ -71,11 +71,17 @@ pub struct VariableText {
     pub kind: TypeText,
 }
 
-/// A bit list: some registers, each whole or with its ranges.
 #[derive(Debug)]
 pub struct ListText {
     pub modifier: Option<Part>,
-    pub registers: Vec<(Name, Option<Vec<Range>>)>,
+    pub pieces: Vec<PieceText>,
+}
+
+/// A whole register, bits 7 to 0, or one range of its bits.
+#[derive(Debug)]
+pub struct PieceText {
+    pub register: Name,
+    pub bits: Range,
 }
 
 #[derive(Clone, Copy, Debug, PartialEq, Eq)]
@@ -208,8 +214,10 @@ impl<'t> Reader<'t> {
         self.word(Word::Port)?;
         let ranges = if self.take_sign(Sign::At)? {
             self.sign(Sign::OpenBrace)?;
-            let mut ranges = Vec::new();
-            self.ranges(&mut ranges, RANGES)?;
+            let mut ranges = vec![self.range(0, RANGES)?];
+            while self.take_sign(Sign::Comma)? {
+                ranges.push(self.range(ranges.len(), RANGES)?);
+            }
             self.sign(Sign::CloseBrace)?;
             Some(ranges)
         } else {
@@ -241,23 +249,18 @@ impl<'t> Reader<'t> {
         Ok(width)
     }
 
-    /// Appends one or more ranges, with room for `size` of them.
-    fn ranges(&mut self, ranges: &mut Vec<Range>, size: usize) -> Read<()> {
-        loop {
-            if let Token::Number(_) = self.token() {
-                self.room(ranges.len(), size)?;
-            }
-            let first = self.number()?;
-            let last = if self.take_sign(Sign::DotDot)? {
-                self.number()?
-            } else {
-                first
-            };
-            ranges.push(Range { first, last });
-            if !self.take_sign(Sign::Comma)? {
-                return Ok(());
-            }
+    /// A range after `count` others, with room for `size` of them.
+    fn range(&mut self, count: usize, size: usize) -> Read<Range> {
+        if let Token::Number(_) = self.token() {
+            self.room(count, size)?;
         }
+        let first = self.number()?;
+        let last = if self.take_sign(Sign::DotDot)? {
+            self.number()?
+        } else {
+            first
+        };
+        Ok(Range { first, last })
     }
 
     /// The word `register` or `variable` after `count` others of its kind.
@@ -358,28 +361,27 @@ impl<'t> Reader<'t> {
     /// A bit list. Its ninth piece is refused at its first token: the register's name, or the
     /// number in the brackets.
     fn list(&mut self, modifier: Option<Part>) -> Read<ListText> {
-        let mut registers = Vec::new();
-        let mut pieces = 0;
+        let mut pieces = Vec::new();
         loop {
             if self.token() == Token::Name {
-                self.room(pieces, PIECES)?;
+                self.room(pieces.len(), PIECES)?;
             }
-            let name = self.name()?;
-            let ranges = if self.take_sign(Sign::OpenBracket)? {
-                let mut ranges = Vec::new();
-                self.ranges(&mut ranges, PIECES - pieces)?;
+            let register = self.name()?;
+            if self.take_sign(Sign::OpenBracket)? {
+                loop {
+                    let bits = self.range(pieces.len(), PIECES)?;
+                    pieces.push(PieceText { register, bits });
+                    if !self.take_sign(Sign::Comma)? {
+                        break;
+                    }
+                }
                 self.sign(Sign::CloseBracket)?;
-                Some(ranges)
             } else {
-                None
-            };
-            pieces += ranges.as_ref().map_or(1, Vec::len);
-            registers.push((name, ranges));
+                let bits = Range { first: 7, last: 0 };
+                pieces.push(PieceText { register, bits });
+            }
             if !self.take_sign(Sign::Hash)? {
-                return Ok(ListText {
-                    modifier,
-                    registers,
-                });
+                return Ok(ListText { modifier, pieces });
             }
         }
     }
