@@ -12,5 +12,6 @@ pub record Inside (input : List ℕ) (at value next : ℕ) : Type 0 where
 
 pub record Framed (input : List ℕ) (at : ℕ) (found : Bool) (start end next : ℕ) : Type 0 where
   pub on : found ≡ true → at < next
+  pub before : found ≡ true → at < length input
   pub whole : start ≤ end
   pub inside : end ≤ length input

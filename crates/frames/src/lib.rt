@@ -113,3 +113,10 @@ pub fn frame_at(input: &[u8], at: usize) -> Frame
         next: end + 1,
     }
 }
+
+// Room for an input of many texts. The contract hides the array's contents, which nobody asks for.
+pub fn space() -> [u8; 1048576]
+    ensures { λ r. ⌜ 1048576 ≡ length r ⌝ }
+{
+    [0; 1048576]
+}

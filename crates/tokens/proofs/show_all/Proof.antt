@@ -1,0 +1,56 @@
+-- `tokens::show_all` ends: a frame that is found begins inside the input and ends behind its beginning.
+use borrow.Author.Needs.{needs}
+use native.Mathlib.Omega.{arith}
+use Prim.Native.Nat.{_≤_, _-_}
+use lib.ListN.{length}
+use Rattle.tokens.proofs.show_all.Statement.{statement}
+use Rattle.tokens.proofs.show_all.Tie as tie
+
+abbrev Inv-loop : tie.InvT-loop
+Inv-loop input at₀ at = at ≤ at
+
+abbrev μ-loop : tie.MeasureT-loop
+μ-loop input at₀ at = length input - at
+
+loop-holds : tie.Need-loop-holds Inv-loop μ-loop
+loop-holds c = omega arith
+
+frame-at-requires : tie.Need-frame-at-requires Inv-loop μ-loop
+frame-at-requires c κs = search needs
+
+sub-show-text : tie.Need-sub-show-text Inv-loop μ-loop
+sub-show-text c = omega (arith, c .before .frame-at .ensures .whole)
+
+part-show-text-start : tie.Need-part-show-text-start Inv-loop μ-loop
+part-show-text-start c = omega (arith, c .before .frame-at .ensures .whole)
+
+part-show-text-end : tie.Need-part-show-text-end Inv-loop μ-loop
+part-show-text-end c = omega (arith, c .before .frame-at .ensures .inside)
+
+show-text-requires : tie.Need-show-text-requires Inv-loop μ-loop
+show-text-requires c κs = search needs
+
+loop-less : tie.Need-loop-less Inv-loop μ-loop
+loop-less c = omega (arith, c .before .before .before .frame-at .ensures .on (c .before .before .if1 .taken), c .before .before .before .frame-at .ensures .before (c .before .before .if1 .taken))
+
+loop-again : tie.Need-loop-again Inv-loop μ-loop
+loop-again c = omega arith
+
+returns : tie.Need-returns Inv-loop μ-loop
+returns c = search needs
+
+pub show-all-spec : {M : Type 1} → statement M
+show-all-spec =
+    tie.close
+    (tie.spec
+    Inv-loop
+    μ-loop
+    loop-holds
+    frame-at-requires
+    sub-show-text
+    part-show-text-start
+    part-show-text-end
+    show-text-requires
+    loop-less
+    loop-again
+    returns)
