@@ -16,12 +16,14 @@ use Rattle.token.specs.Fair.{placeOf, goesOn, Whole}
 use Rattle.token.specs.Kind.{pick, kindOf, refusedAs}
 use Rattle.token.proofs.Laws.{scan-fair}
 use Rattle.grammar.specs.Grammar.{Text, StopsAt}
-use Rattle.grammar.specs.Devil.{rules, published, device, device-ll}
+use Rattle.syntax.specs.Published.{published, device-spec}
+use Rattle.syntax.proofs.Factored.{rules, device-ll}
+use Rattle.syntax.proofs.Checked.{rules-pass}
 use Rattle.grammar.specs.Parser.{stopped}
 use Rattle.grammar.specs.Places.{walk, then}
-use Rattle.grammar.specs.declared.Outcome.{Outcome}
-use Rattle.grammar.specs.declared.Outcome.the-variants.{Passed, Halted}
-use Rattle.grammar.proofs.Verdicts.{whole-accepted, whole-left, whole-halted, accepted-published, stopped-published}
+use Rattle.grammar.specs.Places.{Outcome, Passed, Halted}
+use Rattle.grammar.proofs.Verdicts.{whole-accepted, whole-left, whole-halted}
+use Rattle.syntax.proofs.Verdicts.{accepted-published, stopped-published}
 use Rattle.syntax.specs.declared.reader.Step.{Step}
 use Rattle.syntax.specs.declared.reader.Step.the-variants.{At, Refused}
 use Rattle.syntax.specs.Reader.{unexpected, fixedAfter}
@@ -48,7 +50,7 @@ module _ (text : List ℕ) where
   ByGrammar (Refused number place) = Stops text number place ⊎ ((number ≡ 5) × ((n p : ℕ) → Stops text n p → place < p))
 
   -- a token where the language stops, as the reader finds it
-  stops-at : (k q : ℕ) → StopsAt (Text published device) (kindsOf text) k → q ≡ walk (source text) k 0
+  stops-at : (k q : ℕ) → StopsAt (Text published device-spec) (kindsOf text) k → q ≡ walk (source text) k 0
       → Stops text (refusedAs (scanAt text q .token)) (placeOf (scanAt text q .token))
   stops-at k q h e = record { token = k; stops = h; number-is = ap refusedAs here; place-is = ap placeOf here }
     where
@@ -59,11 +61,11 @@ module _ (text : List ℕ) where
   said : Outcome → Step
   said o = fixedAfter text 255 (stepOf text o)
 
-  published-text : Text published device (kindsAt text 0) → InLanguage text
-  published-text = subst (λ (ts : List ℕ). Text published device ts) (kinds-are text)
+  published-text : Text published device-spec (kindsAt text 0) → InLanguage text
+  published-text = subst (λ (ts : List ℕ). Text published device-spec ts) (kinds-are text)
 
-  published-stop : (k : ℕ) → StopsAt (Text published device) (kindsAt text 0) k → StopsAt (Text published device) (kindsOf text) k
-  published-stop k = subst (λ (ts : List ℕ). StopsAt (Text published device) ts k) (kinds-are text)
+  published-stop : (k : ℕ) → StopsAt (Text published device-spec) (kindsAt text 0) k → StopsAt (Text published device-spec) (kindsOf text) k
+  published-stop k = subst (λ (ts : List ℕ). StopsAt (Text published device-spec) ts k) (kinds-are text)
 
   passed-right : (q : ℕ) → then rules (source text) device-ll (Passed 0) ≡ Passed q → ByGrammar (fixedAfter text 255 (At q))
   unfolding ByGrammar fixedAfter unexpected
@@ -74,16 +76,16 @@ module _ (text : List ℕ) where
           → ByGrammar (pick c (At (scanAt text q .next)) (unexpected (scanAt text q .token)))
       by true i t =
           let z = ends (length text) (scanAt text q .next) (scanAt text q .token) (eqb-true _ 255 i) (scan-fair text q .whole) in
-          (z .1, published-text (accepted-published (kindsAt text 0) .0 (whole-accepted device-ll (source text) 0 q e (kinds-end text q (z .0)))))
+          (z .1, published-text (accepted-published (kindsAt text 0) .0 (whole-accepted rules rules-pass device-ll (source text) 0 q e (kinds-end text q (z .0)))))
       by false i (inl p) = absurd (eqb-false _ 255 i (p .1))
       by false i (inr p) =
-          let z = whole-left device-ll (source text) 0 q (kindOf (scanAt text q .token)) (kindsAt text (scanAt text q .next)) e p in
+          let z = whole-left rules rules-pass device-ll (source text) 0 q (kindOf (scanAt text q .token)) (kindsAt text (scanAt text q .next)) e p in
           inl (stops-at (z .0) q (published-stop (z .0) (stopped-published (kindsAt text 0) (z .0) .0 (z .1))) (z .2))
 
   halted-right : (q : ℕ) → then rules (source text) device-ll (Passed 0) ≡ Halted q → ByGrammar (unexpected (scanAt text q .token))
   unfolding ByGrammar unexpected
   halted-right q e =
-      let z = whole-halted device-ll (source text) 0 q e in
+      let z = whole-halted rules rules-pass device-ll (source text) 0 q e in
       inl (stops-at (z .0) q (published-stop (z .0) (stopped-published (kindsAt text 0) (z .0) .0 (z .1))) (z .2))
 
   said-right : (o : Outcome) → then rules (source text) device-ll (Passed 0) ≡ o → ByGrammar (said o)

@@ -10,8 +10,8 @@ use Rattle.token.specs.Kind.{pick}
 use Rattle.grammar.specs.Grammar.{_▸_, _∣_, opt, many, lookup, some-of, separated}
 use Rattle.grammar.specs.Sets.{mem}
 use Rattle.grammar.specs.Check.{nullable, firstWith, firstOfRule, first}
-use Rattle.grammar.specs.Kinds.{'port', comma, colon, semicolon, lbrace, rbrace, at-sign}
-use Rattle.grammar.specs.Devil.{rules, param, width, ranges, register-ll, variable-ll, heading, device-ll}
+use Rattle.syntax.proofs.KindNumbers.{'port', comma, colon, semicolon, lbrace, rbrace, at-sign}
+use Rattle.syntax.proofs.Factored.{rules, param, width, ranges, register-ll, variable-ll, heading, device-ll}
 use Rattle.syntax.specs.declared.reader.Step.{Step}
 use Rattle.syntax.specs.declared.reader.Step.the-variants.{At, Refused}
 use Rattle.syntax.specs.Reader.{seenAt, placeAt, fixedAfter}

@@ -13,7 +13,7 @@ use Rattle.token.specs.Fair.{placeOf, goesOn}
 use Rattle.token.specs.Tokens.{tokensOf}
 use Rattle.token.specs.Kind.{kindOf, refusedAs}
 use Rattle.grammar.specs.Grammar.{Text, StopsAt}
-use Rattle.grammar.specs.Devil.{published, device}
+use Rattle.syntax.specs.Published.{published, device-spec}
 use Rattle.syntax.specs.declared.reader.Step.{Step}
 use Rattle.syntax.specs.declared.reader.Step.the-variants.{At, Refused}
 use Rattle.syntax.specs.Sizes.{passedAt, NotBefore}
@@ -32,13 +32,13 @@ tokenNo text k = getD (tokensOf text) k (End (length text))
 
 -- the tokens are a text of the published grammar
 abbrev pub InLanguage : List ℕ → Type 0
-InLanguage text = Text published device (kindsOf text)
+InLanguage text = Text published device-spec (kindsOf text)
 
 -- Refusals 3 and 4: `token` is the first such that no text of the grammar begins with the tokens up to this one. The number is 3 where it is no token at
 -- all, else 4; the place is its first byte.
 pub record Stops (text : List ℕ) (number place : ℕ) : Type 0 where
   pub token : ℕ
-  pub stops : StopsAt (Text published device) (kindsOf text) token
+  pub stops : StopsAt (Text published device-spec) (kindsOf text) token
   pub number-is : number ≡ refusedAs (tokenNo text token)
   pub place-is : place ≡ placeOf (tokenNo text token)
 
