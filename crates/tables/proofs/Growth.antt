@@ -1,0 +1,257 @@
+-- Tables that grow entry by entry: what holds of the entries so far, what one entry more needs, and that in the end the tables are sound.
+-- A loop appends entry n, has it judged (`parameter_fault`, `register_fault`, `variable_fault` answer 0), and goes on.
+use Prim.Native.Nat.{ℕ, zero, suc, _+_, _-_, _*_, _<_, _≤_}
+use native.Mathlib.Omega.{arith}
+use mathlib.Core.Path.{_≡_, refl, sym, ap, ap₂, _∙_, subst}
+use mathlib.Core.Bool.{Bool, true, false, _&&_, not, cond, true≢false}
+use mathlib.Core.Logic.{⊎-elim}
+use mathlib.Core.List.{List}
+use native.Mathlib.Nat.{not-suc-le-zero, le-of-suc-le-suc, eq-or-lt-of-le}
+use lib.Dec.{eqb, leb, ltb}
+use lib.ListN.{getD, length, replicate}
+use borrow.Author.Tests.{ltb-true, ltb-false, lt-ltb}
+use Rattle.tables.specs.Every.{every, zeros, firstOf}
+use Rattle.tables.specs.Marks.{marks, mapBy, distinct}
+use Rattle.tables.specs.Tables.{countOf, registerAt, registerPart, variableAt, variablePart, pieceCount, pieceAt, pieceRegister, pieceHigh, pieceLow, partBits}
+use Rattle.tables.specs.Rules.{onDots, pieceFits, partMaps, typeFits, volatileFits, ownFault, parameterShape, parameterFault, registerShape, registerFault, variableShape, mappedBefore, triggerShared, covered}
+use Rattle.tables.specs.Scan.{Before, Entered, coveredBy}
+use Rattle.tables.specs.Sound.{tablesFit, restZero, shapesFit, rulesKept, variableFault, parameterGood, registerGood, variableGood, sound}
+use Rattle.tables.proofs.Laws.{and-left, and-right, every-at, every-is, every-and, first-le}
+use Rattle.tables.proofs.ZeroLaws.{zeros-at, zeros-are}
+use Rattle.tables.proofs.BelowLaws.{own-maps}
+use Rattle.tables.proofs.MapLaws.{map-none, map-more}
+use Rattle.tables.proofs.ScanLaws.{uncovered-says}
+use Rattle.tables.proofs.SoundLaws.{fault-parts}
+use Rattle.tables.proofs.SameLaws.{Alike, parameter-same, register-same, variable-same, variable-shape-same, shape-few, part-bits-same, part-registers-same}
+
+-- a table with one entry more, of `stride` words: the count is one higher, and only that entry's words are new
+pub record Added (stride : ℕ) (a b : List ℕ) : Type 0 where
+  pub count : countOf b ≡ countOf a + 1
+  pub before : Alike (stride * countOf a + 1) a b
+  pub after : (k : ℕ) → stride * countOf a + 1 + stride ≤ k → getD b k 0 ≡ getD a k 0
+
+-- every entry so far is as refusal 20 wants it, and what is not used is zero
+pub record SoFar (ps rs vs : List ℕ) : Type 0 where
+  pub parameters : every (countOf ps) (parameterGood ps) ≡ true
+  pub registers : every (countOf rs) (registerGood ps rs) ≡ true
+  pub variables : every (countOf vs) (variableGood rs vs) ≡ true
+  pub blank-parameters : zeros ps (36 * countOf ps + 1) (576 - 36 * countOf ps) ≡ true
+  pub blank-registers : zeros rs (15 * countOf rs + 1) (960 - 15 * countOf rs) ≡ true
+  pub blank-variables : zeros vs (59 * countOf vs + 1) (7552 - 59 * countOf vs) ≡ true
+
+-- ---- at the start: tables of zeros
+empty : (t : List ℕ) (size : ℕ) → zeros t 0 (size + 1) ≡ true → countOf t ≡ 0
+empty t size h = zeros-at t 0 (size + 1) h 0 (omega arith)
+
+none : (p : ℕ → Bool) (n : ℕ) → n ≡ 0 → every n p ≡ true
+unfolding every
+none p zero e = refl
+none p (suc n) e = absurd (omega arith)
+
+blank-all : (t : List ℕ) (stride size : ℕ) → zeros t 0 (size + 1) ≡ true → zeros t (stride * countOf t + 1) (size - stride * countOf t) ≡ true
+blank-all t stride size h =
+    rw (empty t size h) (zeros-are t (stride * 0 + 1) (size - stride * 0) (λ k l. let e : stride * 0 + 1 + k ≡ 0 + (k + 1) = omega arith in
+    ap (λ (j : ℕ). getD t j 0) e ∙ zeros-at t 0 (size + 1) h (k + 1) (omega arith)))
+
+pub so-far-none : (ps rs vs : List ℕ) → zeros ps 0 577 ≡ true → zeros rs 0 961 ≡ true → zeros vs 0 7553 ≡ true → SoFar ps rs vs
+so-far-none ps rs vs p r v =
+    record {
+      parameters = none (parameterGood ps) (countOf ps) (empty ps 576 p);
+      registers = none (registerGood ps rs) (countOf rs) (empty rs 960 r);
+      variables = none (variableGood rs vs) (countOf vs) (empty vs 7552 v);
+      blank-parameters = blank-all ps 36 576 p;
+      blank-registers = blank-all rs 15 960 r;
+      blank-variables = blank-all vs 59 7552 v;
+    }
+
+-- ---- one entry more
+-- an entry of the longer table is one of those before, or the new one
+every-added : {n m : ℕ} (p q : ℕ → Bool) → m ≡ n + 1 → every n p ≡ true → ((i : ℕ) → i < n → p i ≡ q i) → q n ≡ true → every m q ≡ true
+every-added {n} {m} p q e all same fresh =
+    every-is m q (λ i l.
+    ⊎-elim (λ (h : i ≡ n). subst (λ (j : ℕ). q j ≡ true) (sym h) fresh) (λ (h : i < n). sym (same i h) ∙ every-at n p all i h)
+    (eq-or-lt-of-le (let l′ : i ≤ n = omega arith in l′)))
+
+blank-added : (stride size : ℕ) (a b : List ℕ) → Added stride a b → zeros a (stride * countOf a + 1) (size - stride * countOf a) ≡ true
+    → zeros b (stride * countOf b + 1) (size - stride * countOf b) ≡ true
+blank-added stride size a b added h =
+    let n = countOf a in
+    let more : stride * (n + 1) ≡ stride * n + stride = omega arith in
+    rw (added .count) (zeros-are b (stride * (n + 1) + 1) (size - stride * (n + 1)) (λ k l.
+    let e : stride * (n + 1) + 1 + k ≡ stride * n + 1 + (stride + k) = omega arith in
+    added .after (stride * (n + 1) + 1 + k) (omega arith)
+    ∙ ap (λ (j : ℕ). getD a j 0) e
+    ∙ zeros-at a (stride * n + 1) (size - stride * n) h (stride + k) (omega arith)))
+
+-- a parameter: they all come before the first register
+pub parameter-added : {a b : List ℕ} (rs vs : List ℕ) → SoFar a rs vs → countOf rs ≡ 0 → countOf vs ≡ 0 → Added 36 a b
+    → parameterGood b (countOf a) ≡ true → SoFar b rs vs
+parameter-added {a} {b} rs vs s no-register no-variable added good =
+    record {
+      parameters = every-added (parameterGood a) (parameterGood b) (added .count) (s .parameters)
+          (λ i l. parameter-same a b i (λ k h g. added .before k h (omega arith))) good;
+      registers = none (registerGood b rs) (countOf rs) no-register;
+      variables = s .variables;
+      blank-parameters = blank-added 36 576 a b added (s .blank-parameters);
+      blank-registers = s .blank-registers;
+      blank-variables = s .blank-variables;
+    }
+
+-- ---- a variable keeps its rules when registers are added
+module _ (a b vs : List ℕ) (more : countOf a ≤ countOf b) (same : Alike (registerAt (countOf a)) a b) where
+  dots-same : (p r low n : ℕ) → p < 2 → r < countOf a → onDots a (registerPart r p) low n ≡ onDots b (registerPart r p) low n
+  unfolding onDots
+  dots-same p r low n h l = rw (same (registerPart r p) (omega arith) (omega arith), same (registerPart r p + 3) (omega arith) (omega arith))
+
+  piece-kept : (p piece : ℕ) → p < 2 → pieceFits a p vs piece ≡ true → pieceFits b p vs piece ≡ true
+  unfolding pieceFits
+  piece-kept p piece h fits =
+      let r = pieceRegister vs piece in
+      let low = and-right (leb (pieceHigh vs piece) 7) _ fits in
+      let register = and-right (leb (pieceLow vs piece) (pieceHigh vs piece)) _ low in
+      let there : r < countOf a = ltb-true r (countOf a) (and-left (ltb r (countOf a)) _ register) in
+      let dots = and-right (ltb r (countOf a)) _ register in
+      rw (and-left (leb (pieceHigh vs piece) 7) _ fits, and-left (leb (pieceLow vs piece) (pieceHigh vs piece)) _ low, lt-ltb r (countOf b) (omega arith))
+      (sym (dots-same p r (pieceLow vs piece) (pieceHigh vs piece + 1 - pieceLow vs piece) h there) ∙ dots)
+
+  maps-kept : (p at : ℕ) → p < 2 → partMaps a p vs at ≡ true → partMaps b p vs at ≡ true
+  unfolding partMaps
+  maps-kept p at h maps =
+      let n = pieceCount vs at in
+      let few = leb (length (partBits vs at)) 32 in
+      let pieces : List ℕ → Bool = λ rs. every n (λ k. pieceFits rs p vs (pieceAt at k)) in
+      let front = and-left (pieces a && distinct (partBits vs at)) few maps in
+      let kept : pieces b ≡ true = every-is n _ (λ k l. piece-kept p (pieceAt at k) h (every-at n _ (and-left (pieces a) (distinct (partBits vs at)) front) k l)) in
+      rw (kept, and-right (pieces a) (distinct (partBits vs at)) front, and-right (pieces a && distinct (partBits vs at)) few maps)
+
+  own-kept : (v : ℕ) → eqb (ownFault a vs v) 0 ≡ true → eqb (ownFault b vs v) 0 ≡ true
+  unfolding ownFault
+  own-kept v h =
+      let m : List ℕ → ℕ → Bool = λ rs p. partMaps rs p vs (variablePart v p) in
+      let was = own-maps a vs v h in
+      let is : (m b 0 && m b 1) ≡ true = rw (maps-kept 0 (variablePart v 0) (omega arith) (and-left (m a 0) (m a 1) was), maps-kept 1 (variablePart v 1) (omega arith) (and-right (m a 0) (m a 1) was)) in
+      ap (λ (c : Bool). eqb (cond c (cond (typeFits vs v) (cond (volatileFits vs v) 0 13) 12) 11) 0) (is ∙ sym was) ∙ h
+
+  pub variable-kept : (v : ℕ) → variableGood a vs v ≡ true → variableGood b vs v ≡ true
+  unfolding variableGood variableFault
+  variable-kept v good =
+      let parts = fault-parts (ownFault a vs v) (mappedBefore vs 0 v) (mappedBefore vs 1 v) (triggerShared vs 0 v) (triggerShared vs 1 v) in
+      let parts′ = fault-parts (ownFault b vs v) (mappedBefore vs 0 v) (mappedBefore vs 1 v) (triggerShared vs 0 v) (triggerShared vs 1 v) in
+      let fault = sym parts ∙ and-right (variableShape vs v) _ good in
+      rw (and-left (variableShape vs v) _ good, parts′, own-kept v (and-left (eqb (ownFault a vs v) 0) _ fault), and-right (eqb (ownFault a vs v) 0) _ fault)
+
+pub register-added : (ps : List ℕ) {a b : List ℕ} (vs : List ℕ) → SoFar ps a vs → Added 15 a b → registerGood ps b (countOf a) ≡ true → SoFar ps b vs
+register-added ps {a} {b} vs s added good =
+    record {
+      parameters = s .parameters;
+      registers = every-added (registerGood ps a) (registerGood ps b) (added .count) (s .registers)
+          (λ i l. register-same ps a b i (λ k h g. added .before k h (omega arith))) good;
+      variables = every-is (countOf vs) (variableGood b vs) (λ v l.
+          variable-kept a b vs (let e = added .count in omega arith) (added .before) v (every-at (countOf vs) (variableGood a vs) (s .variables) v l));
+      blank-parameters = s .blank-parameters;
+      blank-registers = blank-added 15 960 a b added (s .blank-registers);
+      blank-variables = s .blank-variables;
+    }
+
+-- ---- a variable
+good-shape : (rs vs : List ℕ) (v : ℕ) → variableGood rs vs v ≡ true → variableShape vs v ≡ true
+unfolding variableGood
+good-shape rs vs v h = and-left (variableShape vs v) _ h
+
+-- the shapes of the variables before, in the longer table
+shape-kept : (rs a b : List ℕ) (n : ℕ) → Alike (variableAt n) a b → every n (variableGood rs a) ≡ true → (u : ℕ) → u < n → variableShape b u ≡ true
+shape-kept rs a b n same all u l =
+    sym (variable-shape-same a b u (λ k h g. same k h (omega arith))) ∙ good-shape rs a u (every-at n (variableGood rs a) all u l)
+
+pub variable-added : (ps rs : List ℕ) {a b : List ℕ} → SoFar ps rs a → Added 59 a b → variableGood rs b (countOf a) ≡ true → SoFar ps rs b
+variable-added ps rs {a} {b} s added good =
+    record {
+      parameters = s .parameters;
+      registers = s .registers;
+      variables = every-added (variableGood rs a) (variableGood rs b) (added .count) (s .variables)
+          (λ v l. variable-same a b v (λ k h g. added .before k h (omega arith))
+          (λ u m. shape-kept rs a b (countOf a) (added .before) (s .variables) u (omega arith)) rs) good;
+      blank-parameters = s .blank-parameters;
+      blank-registers = s .blank-registers;
+      blank-variables = blank-added 59 7552 a b added (s .blank-variables);
+    }
+
+-- ---- the maps of rules 14 and 15, carried along
+pub before-none : (vs : List ℕ) (p : ℕ) → Before vs p 0 (replicate 2048 0) (replicate 64 0) (replicate 64 0)
+before-none vs p = record { bits-are = map-none 2048 _; held-are = map-none 64 _; pulled-are = map-none 64 _ }
+
+pub before-more : (vs : List ℕ) (p v : ℕ) {bits held pulled bits′ held′ pulled′ : List ℕ} → Before vs p v bits held pulled
+    → Entered vs p v bits held pulled bits′ held′ pulled′ → Before vs p (v + 1) bits′ held′ pulled′
+before-more vs p v m e =
+    record {
+      bits-are = map-more 2048 _ v (m .bits-are) (e .bits-entered);
+      held-are = map-more 64 _ v (m .held-are) (e .held-entered);
+      pulled-are = map-more 64 _ v (m .pulled-are) (e .pulled-entered);
+    }
+
+map-same : (size : ℕ) (f g : ℕ → List ℕ) (n : ℕ) → ((k : ℕ) → k < n → f k ≡ g k) → mapBy size f n ≡ mapBy size g n
+unfolding mapBy
+map-same size f g zero h = refl
+map-same size f g (suc n) h = ap₂ marks (map-same size f g n (λ k l. h k (omega arith))) (h n (omega arith))
+
+-- the maps of the variables before entry n, when it is appended
+pub before-added : (rs a b : List ℕ) (p n : ℕ) {bits held pulled : List ℕ} → p < 2 → Alike (variableAt n) a b → every n (variableGood rs a) ≡ true
+    → Before a p n bits held pulled → Before b p n bits held pulled
+before-added rs a b p n h same all m =
+    record {
+      bits-are = m .bits-are ∙ map-same 2048 _ _ n (λ u l. part-bits-same a b u (near u l) u p (omega arith) h (few u l));
+      held-are = m .held-are ∙ map-same 64 _ _ n (λ u l. part-registers-same a b u (near u l) u p (omega arith) h (few u l));
+      pulled-are = m .pulled-are ∙ map-same 64 _ _ n (λ u l.
+          rw (same (variablePart u p + 1) (omega arith) (omega arith), part-registers-same a b u (near u l) u p (omega arith) h (few u l)));
+    }
+  where
+    near : (u : ℕ) → u < n → Alike (variableAt (suc u)) a b
+    near u l k g o = same k g (omega arith)
+
+    few : (u : ℕ) → u < n → pieceCount b (variablePart u p) ≤ 8
+    few u l = shape-few b u p h (shape-kept rs a b n same all u l)
+
+-- ---- at the end
+-- a search that found nothing
+first-all : (n : ℕ) (p : ℕ → Bool) → firstOf n p ≡ n → (k : ℕ) → k < n → p k ≡ false
+unfolding firstOf
+first-all zero p e k l = absurd (not-suc-le-zero l)
+first-all (suc n) p e k l = go (ltb (firstOf n p) n) refl (p n) refl e (λ h m. first-all n p h k m)
+  where
+    go : (b : Bool) → ltb (firstOf n p) n ≡ b → (c : Bool) → p n ≡ c → cond b (firstOf n p) (cond c n (suc n)) ≡ suc n
+        → (firstOf n p ≡ n → k < n → p k ≡ false) → p k ≡ false
+    go true h c g e rest = let below = ltb-true (firstOf n p) n h in absurd (omega arith)
+    go false h true g e rest = absurd (omega arith)
+    go false h false g e rest =
+        let here : firstOf n p ≡ n = omega (arith, first-le n p, ltb-false (firstOf n p) n h) in
+        ⊎-elim (λ (q : k ≡ n). ap p q ∙ g) (λ (m : k < n). rest here m) (eq-or-lt-of-le (le-of-suc-le-suc l))
+
+not-false : (b : Bool) → not b ≡ false → b ≡ true
+not-false true e = refl
+not-false false e = absurd (true≢false e)
+
+-- `uncovered` answered the count of registers: rule 16 is kept
+pub covered-all : (rs vs : List ℕ) (n r : ℕ) {read held pulled write held′ pulled′ : List ℕ} → countOf rs ≤ 64
+    → Before vs 0 n read held pulled → Before vs 1 n write held′ pulled′
+    → r ≡ firstOf (countOf rs) (λ i. not (coveredBy rs read 0 i && coveredBy rs write 1 i)) → r ≡ countOf rs
+    → every (countOf rs) (λ i. covered rs vs n 0 i && covered rs vs n 1 i) ≡ true
+covered-all rs vs n r {read} {write = write} few m w is e =
+    let first : ℕ → List ℕ → List ℕ → ℕ = λ k x y. firstOf k (λ i. not (coveredBy rs x 0 i && coveredBy rs y 1 i)) in
+    let found : firstOf (countOf rs) (λ i. not (covered rs vs n 0 i && covered rs vs n 1 i)) ≡ countOf rs
+    = sym (uncovered-says rs vs n few) ∙ sym (ap₂ (first (countOf rs)) (m .bits-are) (w .bits-are)) ∙ sym is ∙ e in
+    every-is (countOf rs) _ (λ i l. not-false _ (first-all (countOf rs) _ found i l))
+
+-- what was built entry by entry, with counts in range and every dot mapped, is sound: the loader's "accepted" implies it
+pub so-far-sound : (ps rs vs : List ℕ) → tablesFit ps rs vs ≡ true → SoFar ps rs vs
+    → every (countOf rs) (λ i. covered rs vs (countOf vs) 0 i && covered rs vs (countOf vs) 1 i) ≡ true → sound ps rs vs ≡ true
+unfolding sound restZero shapesFit rulesKept parameterGood registerGood variableGood
+so-far-sound ps rs vs fit s covers =
+    let p = both (countOf ps) (parameterShape ps) (λ i. eqb (parameterFault ps i) 0) (s .parameters) in
+    let r = both (countOf rs) (registerShape ps rs) (λ i. eqb (registerFault ps rs i) 0) (s .registers) in
+    let v = both (countOf vs) (variableShape vs) (λ i. eqb (variableFault rs vs i) 0) (s .variables) in
+    rw (fit, s .blank-parameters, s .blank-registers, s .blank-variables, p .0, p .1, r .0, r .1, v .0, v .1, covers)
+  where
+    both : (n : ℕ) (f g : ℕ → Bool) → every n (λ i. f i && g i) ≡ true → (every n f ≡ true) × (every n g ≡ true)
+    both n f g h =
+        let two = sym (every-and n f g) ∙ h in
+        (and-left (every n f) (every n g) two, and-right (every n f) (every n g) two)
