@@ -7,9 +7,9 @@ use mathlib.Core.Bool.{Bool, true, false, _||_}
 use mathlib.Core.Logic.{_⊎_, inl, inr}
 use mathlib.Core.List.{List, [], _∷_}
 use mathlib.Core.Option.{Option}
-use lib.Dec.{eqb, ltb}
+use lib.Dec.{eqb, leb}
 use lib.ListN.{length}
-use borrow.Author.Tests.{eqb-true, eqb-false, eq-eqb, lt-ltb, le-ltb}
+use borrow.Author.Tests.{eqb-true, eqb-false, eq-eqb, le-leb, lt-leb}
 use Rattle.token.specs.declared.Token.{Token}
 use Rattle.token.specs.declared.Token.the-variants.{Name, Word, Number, Bits, Sign, End, Bad as NoToken}
 use Rattle.token.specs.Scan.{scanAt}
@@ -125,17 +125,17 @@ module _ (text : List ℕ) (w : Option ℕ) (registers variables : ℕ) where
     by-nothing q = rw (operand-nothing text depth at q, refused-alike (scanAt text at .token)) (agrees-unexpected text w (before o) (behind (ended o)) at a)
 
     -- one that sixteen enclose
-    too-deep : length o ≡ 16 → depth ≡ 0 → (k : ℕ) → eqb 255 k ≡ false → kindOf (scanAt text at .token) ≡ k → tooMuch (before o) k ≡ ltb 16 (suc (length o))
+    too-deep : length o ≡ 16 → depth ≡ 0 → (k : ℕ) → eqb 255 k ≡ false → kindOf (scanAt text at .token) ≡ k → tooMuch (before o) k ≡ leb 16 (length o)
         → (openingOf (scanAt text at .token) ≡ Minus) ⊎ (openingOf (scanAt text at .token) ≡ Paren) → Agrees text w (behind (ended o)) (stepIn (operandAt text depth at))
     unfolding stepIn
     too-deep full z k end i much q =
         rw (operand-deep text depth at z q)
         (agrees-five text w (before o) (behind (ended o)) at (goes text w (scanAt text at .token) k end (eq-eqb _ k i))
-        (ap (λ (n : ℕ). longName (scanAt text at .token) || tooMuch (before o) n) i ∙ ap (λ (b : Bool). longName (scanAt text at .token) || b) (much ∙ lt-ltb 16 (suc (length o)) (omega arith)) ∙ or-true (longName (scanAt text at .token))) a)
+        (ap (λ (n : ℕ). longName (scanAt text at .token) || tooMuch (before o) n) i ∙ ap (λ (b : Bool). longName (scanAt text at .token) || b) (much ∙ le-leb 16 (length o) (omega arith)) ∙ or-true (longName (scanAt text at .token))) a)
 
     module _ (d : ℕ) (is : depth ≡ suc d) (fits : length o + depth ≡ 16) (inner : Operand d) where
-      not-full : ltb 16 (suc (length o)) ≡ false
-      not-full = le-ltb 16 (suc (length o)) (omega arith)
+      not-full : leb 16 (length o) ≡ false
+      not-full = lt-leb 16 (length o) (omega arith)
 
       by-minus : openingOf (scanAt text at .token) ≡ Minus → kindOf (scanAt text at .token) ≡ 301 → Agrees text w (behind (ended o)) (stepIn (operandAt text depth at))
       unfolding ended tallied tooMuch passesAt onward

@@ -1,5 +1,5 @@
--- Document 01, "Sizes" and refusal 5: at which token of a text a size is passed. It is a count over the tokens from left to right, and knows nothing of how
--- a text is read. It is meant for the tokens that begin a text of the grammar: from the token on that refusal 3 or 4 names, it says nothing.
+-- Document 01, "Sizes" and refusal 5: at which token of a text a size is first passed. It is a count over the tokens from left to right, and knows nothing of
+-- how a text is read. It is meant as far as the tokens begin a text of the grammar; from the token on that breaks it, refusal 3 or 4 is given before.
 use Prim.Native.Nat.{ℕ, zero, suc, _+_, _≤_}
 use Prim.Native.Char.{Char, code}
 use mathlib.Core.Path.{_≡_}
@@ -7,7 +7,7 @@ use mathlib.Core.Logic.{_⊎_}
 use mathlib.Core.Bool.{Bool, true, false, _&&_, _||_}
 use mathlib.Core.List.{List, [], _∷_}
 use mathlib.Core.Option.{Option, none, some}
-use lib.Dec.{eqb, ltb}
+use lib.Dec.{eqb, leb, ltb}
 use lib.ListN.{length}
 use Rattle.token.specs.declared.Token.{Token}
 use Rattle.token.specs.declared.Token.the-variants.{Name, Word, Number, Bits, Sign, End, Bad}
@@ -17,7 +17,7 @@ use Rattle.token.specs.Tokens.{tokensOf}
 use Rattle.syntax.specs.declared.reader.Step.{Step}
 use Rattle.syntax.specs.declared.reader.Step.the-variants.{At, Refused}
 
--- ---- the sizes
+-- ---- the sizes: of names, of the lists of a text, and of what may enclose a number in an offset
 
 abbrev pub nameBytes : ℕ
 nameBytes = 64
@@ -50,12 +50,12 @@ pub data Encloser : Type 0 where
 pub data Spot : Type 0 where
   front : Spot  -- before the parameters
   parameter : ℕ → Spot  -- in the parameter of this number, from 1
-  range : ℕ → ℕ → Spot  -- in the parameter of this number, in the range of that number
+  range : ℕ → ℕ → Spot  -- in that parameter, in the braces, in the range of this number
   body : Spot  -- behind the parameters, outside of declarations
-  register : List Encloser → Spot  -- in a register; in an offset behind an operand, what encloses it
-  operand : List Encloser → Spot  -- in an offset where an operand is due, what will enclose it
+  register : List Encloser → Spot  -- in a register; in an offset behind an operand, with what still encloses it
+  operand : List Encloser → Spot  -- in an offset where an operand is due, with what will enclose it, innermost first
   piece : ℕ → Spot  -- in a variable, in the piece of this number of a bit list
-  bracket : ℕ → Spot  -- the same, in brackets
+  bracket : ℕ → Spot  -- the same, in the brackets of a register, where each range is a piece
 
 -- the kind of a sign of one byte, and of the two words that are counted
 abbrev pub sign : Char → ℕ
@@ -85,24 +85,48 @@ asksOperand k = eqb k (sign "@") || eqb k (sign "+") || eqb k (sign "-") || eqb 
 -- the spot behind a token of this kind
 unfoldable pub onward : Spot → ℕ → Spot
 onward front k = pick (eqb k (sign "(")) (parameter 1) front
-onward (parameter n) k = pick (eqb k (sign ",")) (parameter (suc n)) (pick (eqb k (sign "{")) (range n 1) (pick (eqb k (sign ")")) body (parameter n)))
-onward (range n m) k = pick (eqb k (sign ",")) (range n (suc m)) (pick (eqb k (sign "}")) (parameter n) (range n m))
-onward body k = pick (eqb k 'register') (register []) (pick (eqb k 'variable') (piece 1) body)
-onward (register o) k = pick (asksOperand k) (operand o) (pick (eqb k (sign ")")) (register (closed o)) (pick (eqb k (sign ";")) body (register o)))
-onward (operand o) k = pick (eqb k (sign "(")) (operand (parenthesis ∷ o)) (pick (eqb k (sign "-")) (operand (minus ∷ o)) (register (ended o)))
+onward (parameter n) k =
+    pick (eqb k (sign ",")) (parameter (suc n))
+    (pick (eqb k (sign "{")) (range n 1)
+    (pick (eqb k (sign ")")) body
+    (parameter n)))
+onward (range n m) k =
+    pick (eqb k (sign ",")) (range n (suc m))
+    (pick (eqb k (sign "}")) (parameter n)
+    (range n m))
+onward body k =
+    pick (eqb k 'register') (register [])
+    (pick (eqb k 'variable') (piece 1)
+    body)
+onward (register o) k =
+    pick (asksOperand k) (operand o)
+    (pick (eqb k (sign ")")) (register (closed o))
+    (pick (eqb k (sign ";")) body
+    (register o)))
+onward (operand o) k =
+    pick (eqb k (sign "(")) (operand (parenthesis ∷ o))
+    (pick (eqb k (sign "-")) (operand (minus ∷ o))
+    (register (ended o)))
 onward (piece n) k =
-    pick (eqb k (sign "#")) (piece (suc n)) (pick (eqb k (sign ",")) (piece 1) (pick (eqb k (sign "[")) (bracket n) (pick (eqb k (sign ";")) body (piece n))))
-onward (bracket n) k = pick (eqb k (sign ",")) (bracket (suc n)) (pick (eqb k (sign "]")) (piece n) (bracket n))
+    pick (eqb k (sign "#")) (piece (suc n))
+    (pick (eqb k (sign "[")) (bracket n)
+    (pick (eqb k (sign ",")) (piece 1)
+    (pick (eqb k (sign ";")) body
+    (piece n))))
+onward (bracket n) k =
+    pick (eqb k (sign ",")) (bracket (suc n))
+    (pick (eqb k (sign "]")) (piece n)
+    (bracket n))
 
--- Whether a token of this kind passes a size at the spot: the seventeenth parameter's, seventeenth range's or ninth piece's first token does (behind its comma
--- or `#`); so does a parenthesis or a minus that sixteen enclose already.
+-- Whether a token of this kind passes a size at the spot. The first token of a parameter, range or piece too many does, whatever it is: where none can begin
+-- with it, refusal 4 names the same token, and the lower number is given. In an offset a parenthesis or a minus does that as many enclose as may.
 unfoldable pub passesAt : Spot → ℕ → Bool
 passesAt front k = false
 passesAt (parameter n) k = ltb mostParameters n
 passesAt (range n m) k = ltb mostRanges m
 passesAt body k = false
 passesAt (register o) k = false
-passesAt (operand o) k = (eqb k (sign "(") || eqb k (sign "-")) && ltb deepest (suc (length o))
+passesAt (operand o) k = (eqb k (sign "(") || eqb k (sign "-")) && leb deepest (length o)
 passesAt (piece n) k = ltb mostPieces n
 passesAt (bracket n) k = ltb mostPieces n
 
