@@ -13,20 +13,18 @@ use borrow.Author.Tests.{eqb-true, eqb-false, eq-eqb, le-leb, lt-leb}
 use Rattle.token.specs.declared.Token.{Token}
 use Rattle.token.specs.declared.Token.the-variants.{Name, Word, Number, Bits, Sign, End, Bad as NoToken}
 use Rattle.token.specs.Scan.{scanAt}
-use Rattle.token.specs.Fair.{placeOf, goesOn}
 use Rattle.token.specs.Kind.{pick, kindOf, signOf}
 use Rattle.expression.specs.declared.Worth.{Worth}
 use Rattle.expression.specs.declared.Outcome.{Outcome}
 use Rattle.expression.specs.declared.Outcome.the-variants.{Read, Refused as Stopped}
 use Rattle.expression.specs.declared.Opening.{Opening}
 use Rattle.expression.specs.declared.Opening.the-variants.{Literal, Minus, Paren, Nothing}
-use Rattle.expression.specs.Expression.{levelOf, openingOf, unexpectedAs, onRead, negatedRead, closedRead, operandAt, chainAt, restAt, expressionAt}
+use Rattle.expression.specs.Expression.{levelOf, openingOf, operandAt, chainAt, restAt, expressionAt}
 use Rattle.expression.proofs.Laws.{operand-literal, operand-nothing, operand-deep, operand-minus, operand-paren, chain-operand, chain-first, rest-end, rest-refusal, rest-more, rest-ahead}
 use Rattle.syntax.specs.declared.reader.Step.{Step}
 use Rattle.syntax.specs.declared.reader.Step.the-variants.{At, Refused}
-use Rattle.syntax.specs.Reader.{fixedAfter}
 use Rattle.syntax.specs.Offset.{stepIn, expressionAfter}
-use Rattle.syntax.specs.Sizes.{Encloser, parenthesis, minus, Spot, register, operand, ended, closed, asksOperand, onward, passesAt, Tally, tallied, longName, tooMuch}
+use Rattle.syntax.specs.Sizes.{Encloser, parenthesis, minus, register, operand, ended, closed, asksOperand, onward, passesAt, Tally, tallied, longName, tooMuch}
 use Rattle.syntax.proofs.ExpressionFollows.{Matches, opening-kind, refused-alike, negated-step, closed-step}
 use Rattle.syntax.proofs.Tally.{Agrees, refused-agrees, agrees-unexpected, agrees-five, agrees-kind, agrees-tok, goes, or-true}
 

@@ -2,14 +2,14 @@
 -- Assumes nothing.
 use Prim.Native.Nat.{ℕ, zero, suc, _+_}
 use native.Mathlib.Omega.{arith}
-use mathlib.Core.Path.{_≡_, refl, sym, ap, _∙_, subst}
+use mathlib.Core.Path.{_≡_, refl, sym, subst}
 use mathlib.Core.Bool.{Bool, true, false}
 use mathlib.Core.List.{List}
 use mathlib.Core.Option.{Option}
 use lib.Dec.{eqb, ltb}
 use borrow.Author.Tests.{lt-ltb, le-ltb}
 use Rattle.syntax.specs.declared.reader.Step.{Step}
-use Rattle.syntax.specs.Reader.{seenAt, fixedAfter, nameAfter, numberAfter}
+use Rattle.syntax.specs.Reader.{seenAt, fixedAfter, numberAfter}
 use Rattle.syntax.specs.Parameter.{widthAfter, rangeTo, rangeAfter, extraRange, moreRanges, rangesAfter, closedSet, setAfter, parameterAfter}
 use Rattle.syntax.specs.Sizes.{parameter, range, onward, passesAt, Tally, tallied, tooMuch}
 use Rattle.syntax.proofs.RangeSteps.{more-end, more-full, more-on}

@@ -1,7 +1,7 @@
 -- The register's readers agree with the count of sizes.
 -- Assumes nothing.
 use Prim.Native.Nat.{ℕ, zero, suc}
-use mathlib.Core.Path.{_≡_, refl, sym, ap, _∙_, subst}
+use mathlib.Core.Path.{_≡_, refl, sym, subst}
 use mathlib.Core.Bool.{Bool, true, false}
 use mathlib.Core.List.{List, []}
 use mathlib.Core.Option.{Option}
@@ -9,12 +9,12 @@ use lib.Dec.{eqb, ltb}
 use lib.ListN.{length}
 use Rattle.syntax.specs.declared.reader.Step.{Step}
 use Rattle.syntax.specs.declared.register.Masks.{Masks}
-use Rattle.syntax.specs.Reader.{seenAt, fixedAfter, nameAfter}
-use Rattle.syntax.specs.Register.{markAfter, bitsAfter, valueAfter, offsetAfter, portAfter, maskAfter, attributeAfter, moreMasks, secondMarked, restAfter, registerAfter}
-use Rattle.syntax.specs.Sizes.{Spot, body, register, operand, asksOperand, onward, passesAt, Tally, tallied, tooMuch}
+use Rattle.syntax.specs.Reader.{seenAt, fixedAfter}
+use Rattle.syntax.specs.Register.{markAfter, offsetAfter, portAfter, maskAfter, attributeAfter, moreMasks, secondMarked, restAfter, registerAfter}
+use Rattle.syntax.specs.Sizes.{body, register, operand, asksOperand, onward, passesAt, Tally, tallied, tooMuch}
 use Rattle.syntax.proofs.MaskSteps.{masks-end, masks-on}
 use Rattle.syntax.proofs.RegisterFollows.{bits-is, value-is}
-use Rattle.syntax.proofs.Tally.{Agrees, Quiet, agrees-tok, agrees-quiet, agrees-past, agrees-name, or-false}
+use Rattle.syntax.proofs.Tally.{Agrees, Quiet, agrees-tok, agrees-past, agrees-name, or-false}
 use Rattle.syntax.proofs.TallyParameter.{agrees-width}
 use Rattle.syntax.proofs.TallyExpression.{agrees-expression}
 

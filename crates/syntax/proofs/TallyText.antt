@@ -2,7 +2,7 @@
 -- Assumes nothing.
 use Prim.Native.Nat.{ℕ, zero, suc, _+_, min}
 use native.Mathlib.Omega.{arith}
-use mathlib.Core.Path.{_≡_, refl, sym, ap, _∙_, subst}
+use mathlib.Core.Path.{_≡_, refl, sym, ap, subst}
 use mathlib.Core.Bool.{Bool, true, false, _||_}
 use mathlib.Core.List.{List, []}
 use mathlib.Core.Option.{Option}
@@ -16,14 +16,14 @@ use Rattle.syntax.specs.declared.reader.Named.{Named}
 use Rattle.syntax.specs.declared.register.Register.{Register}
 use Rattle.syntax.specs.Reader.{seenAt, fixedAfter}
 use Rattle.syntax.specs.Heading.{headAfter}
-use Rattle.syntax.specs.Parameter.{extraName, parameterAfter}
+use Rattle.syntax.specs.Parameter.{extraName}
 use Rattle.syntax.specs.Register.{registerAfter}
-use Rattle.syntax.specs.Variable.{VariableRead, variableAfter}
+use Rattle.syntax.specs.Variable.{VariableRead}
 use Rattle.syntax.specs.Loop.{loopWith}
 use Rattle.syntax.specs.Text.{Declaration, aDevice, aParameter, aRegister, aVariable, Progress, begins, extraWord, movedTo, counted, taken, headWith, parameterWith, moreParameters, registerWith, variableWith, declarationWith, moreDeclarations, parametersWith, declarationsWith, readingWith, listed, reading}
 use Rattle.syntax.specs.Sizes.{Spot, front, parameter, body, register, piece, onward, passesAt, asksOperand, Tally, nothingYet, tallied, tooMuch, passedIn, passedAt, Kept}
 use Rattle.syntax.proofs.LoopSteps.{loop-end, loop-on}
-use Rattle.syntax.proofs.Tally.{Agrees, refused-agrees, agrees-tok, agrees-past, agrees-name, agrees-extra, agrees-extra-name, agrees-end, or-false}
+use Rattle.syntax.proofs.Tally.{Agrees, refused-agrees, agrees-tok, agrees-past, agrees-name, agrees-extra, agrees-extra-name, agrees-end}
 use Rattle.syntax.proofs.TallyParameter.{agrees-parameter}
 use Rattle.syntax.proofs.TallyRegister.{agrees-register}
 use Rattle.syntax.proofs.TallyVariable.{InVariable, agrees-variable}

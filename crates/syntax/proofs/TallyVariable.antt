@@ -2,22 +2,22 @@
 -- Assumes nothing.
 use Prim.Native.Nat.{ℕ, zero, suc, _+_}
 use native.Mathlib.Omega.{arith}
-use mathlib.Core.Path.{_≡_, refl, sym, ap, _∙_, subst}
+use mathlib.Core.Path.{_≡_, refl, subst}
 use mathlib.Core.Bool.{Bool, true, false}
-use mathlib.Core.List.{List, []}
+use mathlib.Core.List.{List}
 use mathlib.Core.Option.{Option}
 use lib.Dec.{eqb, leb, ltb}
 use lib.ListN.{length}
-use borrow.Author.Tests.{leb-true, leb-false, ltb-false, lt-ltb, le-ltb}
+use borrow.Author.Tests.{leb-true, leb-false, lt-ltb, le-ltb}
 use Rattle.syntax.specs.declared.reader.Step.{Step}
 use Rattle.syntax.specs.declared.attribute.Behaviours.{Behaviours}
-use Rattle.syntax.specs.Reader.{seenAt, fixedAfter, nameAfter, numberAfter}
+use Rattle.syntax.specs.Reader.{seenAt, fixedAfter, nameAfter}
 use Rattle.syntax.specs.Parameter.{extraRange, extraName}
 use Rattle.syntax.specs.Register.{markAfter}
 use Rattle.syntax.specs.Attribute.{triggerAfter, behaviourAfter, moreBehaviours, intAfter, typeAfter}
 use Rattle.syntax.specs.Piece.{Filed, rangePiece, moreBits, bracketAfter, pieceAfter, morePieces, piecesAfter}
 use Rattle.syntax.specs.Variable.{secondMarked, secondAfter, restAfter, variableAfter}
-use Rattle.syntax.specs.Sizes.{Spot, body, piece, bracket, onward, passesAt, Tally, tallied, tooMuch}
+use Rattle.syntax.specs.Sizes.{body, piece, bracket, onward, passesAt, Tally, tallied, tooMuch}
 use Rattle.syntax.proofs.PieceSteps.{bits-end, bits-on, pieces-end, pieces-on}
 use Rattle.syntax.proofs.BehaviourSteps.{behaviours-end, behaviours-on}
 use Rattle.syntax.proofs.Tally.{Agrees, agrees-tok, agrees-past, agrees-name, agrees-number, agrees-extra-name, agrees-extra-number, or-false}

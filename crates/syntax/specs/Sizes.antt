@@ -1,6 +1,6 @@
 -- Document 01, "Sizes" and refusal 5: at which token of a text a size is first passed. It is a count over the tokens from left to right, and knows nothing of
 -- how a text is read. It is meant as far as the tokens begin a text of the grammar; from the token on that breaks it, refusal 3 or 4 is given before.
-use Prim.Native.Nat.{ℕ, zero, suc, _+_, _≤_}
+use Prim.Native.Nat.{ℕ, suc, _+_, _≤_}
 use Prim.Native.Char.{Char, code}
 use mathlib.Core.Path.{_≡_}
 use mathlib.Core.Logic.{_⊎_}
