@@ -20,8 +20,7 @@ use Rattle.syntax.specs.Published.{published, device-spec}
 use Rattle.syntax.proofs.Factored.{rules, device-ll}
 use Rattle.syntax.proofs.Checked.{rules-pass}
 use Rattle.grammar.specs.Parser.{stopped}
-use Rattle.grammar.specs.Places.{walk, then}
-use Rattle.grammar.specs.Places.{Outcome, Passed, Halted}
+use Rattle.grammar.specs.Places.{walk, then, Outcome, Passed, Halted}
 use Rattle.grammar.proofs.Verdicts.{whole-accepted, whole-left, whole-halted}
 use Rattle.syntax.proofs.Verdicts.{accepted-published, stopped-published}
 use Rattle.syntax.specs.declared.reader.Step.{Step}

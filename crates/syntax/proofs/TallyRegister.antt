@@ -1,6 +1,6 @@
 -- The register's readers agree with the count of sizes.
 -- Assumes nothing.
-use Prim.Native.Nat.{ℕ, zero, suc}
+use Prim.Native.Nat.{ℕ, suc}
 use mathlib.Core.Path.{_≡_, refl, sym, subst}
 use mathlib.Core.Bool.{Bool, true, false}
 use mathlib.Core.List.{List, []}
@@ -9,10 +9,11 @@ use lib.Dec.{eqb, ltb}
 use lib.ListN.{length}
 use Rattle.syntax.specs.declared.reader.Step.{Step}
 use Rattle.syntax.specs.declared.register.Masks.{Masks}
+use Rattle.syntax.specs.declared.register.Masked.{Masked}
 use Rattle.syntax.specs.Reader.{seenAt, fixedAfter}
-use Rattle.syntax.specs.Register.{markAfter, offsetAfter, portAfter, maskAfter, attributeAfter, moreMasks, secondMarked, restAfter, registerAfter}
+use Rattle.syntax.specs.Register.{markAfter, offsetAfter, portAfter, maskAfter, attributeAfter, maskTurn, moreMasks, secondMarked, restAfter, registerAfter}
 use Rattle.syntax.specs.Sizes.{body, register, operand, asksOperand, onward, passesAt, Tally, tallied, tooMuch}
-use Rattle.syntax.proofs.MaskSteps.{masks-end, masks-on}
+use Rattle.syntax.proofs.LoopSteps.{loop-keeps}
 use Rattle.syntax.proofs.RegisterFollows.{bits-is, value-is}
 use Rattle.syntax.proofs.Tally.{Agrees, Quiet, agrees-tok, agrees-past, agrees-name, or-false}
 use Rattle.syntax.proofs.TallyParameter.{agrees-width}
@@ -74,14 +75,10 @@ module _ (text : List ℕ) (w : Option ℕ) where
 
     -- (, rw? mask bits)*
     agrees-masks : (room : ℕ) (masks : Masks) (s : Step) → Agrees text w inRegister s → Agrees text w inRegister (moreMasks text room masks s .step)
-    unfolding moreMasks attributeAfter
-    agrees-masks zero masks s a = a
-    agrees-masks (suc room) masks s a = by (eqb (seenAt text s .kind) 300) refl (agrees-masks room)
-      where
-        by : (b : Bool) → eqb (seenAt text s .kind) 300 ≡ b → ((masks : Masks) (t : Step) → Agrees text w inRegister t → Agrees text w inRegister (moreMasks text room masks t .step))
-            → Agrees text w inRegister (moreMasks text (suc room) masks s .step)
-        by true i rest = rw (masks-on text masks s (suc room) room refl i) (rest _ _ (agrees-mask masks _ _ (marked _ (behind-comma s i a))))
-        by false i rest = rw (masks-end text masks s (suc room) i) a
+    unfolding moreMasks maskTurn attributeAfter
+    agrees-masks room masks s a =
+        loop-keeps text (λ (m : Masked). m .step) (λ kind. eqb kind 300) (maskTurn text) (λ m. Agrees text w inRegister (m .step))
+        (λ m i a. agrees-mask (m .masks) _ _ (marked _ (behind-comma (m .step) i a))) room (record { masks = masks; step = s }) a
 
     -- a second port or a first mask
     agrees-second : (mark : ℕ) (s : Step) → Agrees text w inRegister s → Agrees text w inRegister (secondMarked text mark s .step)

@@ -1,8 +1,8 @@
 -- The reading of a whole text agrees with the count of sizes, whatever is made of its declarations.
 -- Assumes nothing.
-use Prim.Native.Nat.{ℕ, zero, suc, _+_, min}
+use Prim.Native.Nat.{ℕ, suc, _+_, min}
 use native.Mathlib.Omega.{arith}
-use mathlib.Core.Path.{_≡_, refl, sym, ap, subst}
+use mathlib.Core.Path.{_≡_, refl, ap, subst}
 use mathlib.Core.Bool.{Bool, true, false, _||_}
 use mathlib.Core.List.{List, []}
 use mathlib.Core.Option.{Option}
@@ -19,25 +19,13 @@ use Rattle.syntax.specs.Heading.{headAfter}
 use Rattle.syntax.specs.Parameter.{extraName}
 use Rattle.syntax.specs.Register.{registerAfter}
 use Rattle.syntax.specs.Variable.{VariableRead}
-use Rattle.syntax.specs.Loop.{loopWith}
 use Rattle.syntax.specs.Text.{Declaration, aDevice, aParameter, aRegister, aVariable, Progress, begins, extraWord, movedTo, counted, taken, headWith, parameterWith, moreParameters, registerWith, variableWith, declarationWith, moreDeclarations, parametersWith, declarationsWith, readingWith, listed, reading}
 use Rattle.syntax.specs.Sizes.{Spot, front, parameter, body, register, piece, onward, passesAt, asksOperand, Tally, nothingYet, tallied, tooMuch, passedIn, passedAt, Kept}
-use Rattle.syntax.proofs.LoopSteps.{loop-end, loop-on}
+use Rattle.syntax.proofs.LoopSteps.{loop-keeps}
 use Rattle.syntax.proofs.Tally.{Agrees, refused-agrees, agrees-tok, agrees-past, agrees-name, agrees-extra, agrees-extra-name, agrees-end}
 use Rattle.syntax.proofs.TallyParameter.{agrees-parameter}
 use Rattle.syntax.proofs.TallyRegister.{agrees-register}
 use Rattle.syntax.proofs.TallyVariable.{InVariable, agrees-variable}
-
--- what every turn keeps, a loop keeps
-loop-keeps : {P : Type 0} (text : List ℕ) (step : P → Step) (tells : ℕ → Bool) (turn : P → P) (I : P → Type 0)
-    → ((p : P) → tells (seenAt text (step p) .kind) ≡ true → I p → I (turn p)) → (room : ℕ) (p : P) → I p → I (loopWith text step tells turn room p)
-unfolding loopWith
-loop-keeps text step tells turn I keeps zero p i = i
-loop-keeps text step tells turn I keeps (suc room) p i = by (tells (seenAt text (step p) .kind)) refl (loop-keeps text step tells turn I keeps room (turn p))
-  where
-    by : (b : Bool) → tells (seenAt text (step p) .kind) ≡ b → (I (turn p) → I (loopWith text step tells turn room (turn p))) → I (loopWith text step tells turn (suc room) p)
-    by true e rest = subst I (sym (loop-on text step tells turn room p e)) (rest (keeps p e i))
-    by false e rest = subst I (sym (loop-end text step tells turn (suc room) p e)) i
 
 next-one : (n : ℕ) → suc n ≡ n + 1
 next-one n = omega arith

@@ -1,6 +1,6 @@
 -- The variable's readers agree with the count of sizes.
 -- Assumes nothing.
-use Prim.Native.Nat.{ℕ, zero, suc, _+_}
+use Prim.Native.Nat.{ℕ, suc, _+_}
 use native.Mathlib.Omega.{arith}
 use mathlib.Core.Path.{_≡_, refl, subst}
 use mathlib.Core.Bool.{Bool, true, false}
@@ -11,15 +11,15 @@ use lib.ListN.{length}
 use borrow.Author.Tests.{leb-true, leb-false, lt-ltb, le-ltb}
 use Rattle.syntax.specs.declared.reader.Step.{Step}
 use Rattle.syntax.specs.declared.attribute.Behaviours.{Behaviours}
+use Rattle.syntax.specs.declared.attribute.Behaved.{Behaved}
 use Rattle.syntax.specs.Reader.{seenAt, fixedAfter, nameAfter}
 use Rattle.syntax.specs.Parameter.{extraRange, extraName}
 use Rattle.syntax.specs.Register.{markAfter}
-use Rattle.syntax.specs.Attribute.{triggerAfter, behaviourAfter, moreBehaviours, intAfter, typeAfter}
-use Rattle.syntax.specs.Piece.{Filed, rangePiece, moreBits, bracketAfter, pieceAfter, morePieces, piecesAfter}
+use Rattle.syntax.specs.Attribute.{triggerAfter, behaviourAfter, behaviourTurn, moreBehaviours, intAfter, typeAfter}
+use Rattle.syntax.specs.Piece.{Filed, rangePiece, bitsTurn, moreBits, bracketAfter, pieceAfter, pieceTurn, morePieces, piecesAfter}
 use Rattle.syntax.specs.Variable.{secondMarked, secondAfter, restAfter, variableAfter}
 use Rattle.syntax.specs.Sizes.{body, piece, bracket, onward, passesAt, Tally, tallied, tooMuch}
-use Rattle.syntax.proofs.PieceSteps.{bits-end, bits-on, pieces-end, pieces-on}
-use Rattle.syntax.proofs.BehaviourSteps.{behaviours-end, behaviours-on}
+use Rattle.syntax.proofs.LoopSteps.{loop-keeps}
 use Rattle.syntax.proofs.Tally.{Agrees, agrees-tok, agrees-past, agrees-name, agrees-number, agrees-extra-name, agrees-extra-number, or-false}
 use Rattle.syntax.proofs.TallyParameter.{agrees-range}
 use Rattle.syntax.proofs.TallyRegister.{agrees-mark}
@@ -61,17 +61,12 @@ module _ (text : List ℕ) (w : Option ℕ) (registers variables : ℕ) where
 
     -- (, range)*
     more-bits : (room count : ℕ) (table : List ℕ) (s : Step) → ltb 8 count ≡ false → Agrees text w (inBracket count) s → Counted inBracket (moreBits text place extent room count table s)
-    unfolding moreBits tallied tooMuch passesAt onward
-    more-bits zero count table s few a = (few, a)
-    more-bits (suc room) count table s few a = by (eqb (seenAt text s .kind) 300) refl (more-bits room)
-      where
-        by : (b : Bool) → eqb (seenAt text s .kind) 300 ≡ b
-            → ((count : ℕ) (table : List ℕ) (t : Step) → ltb 8 count ≡ false → Agrees text w (inBracket count) t → Counted inBracket (moreBits text place extent room count table t))
-            → Counted inBracket (moreBits text place extent (suc room) count table s)
-        by false i rest = rw (bits-end text count table s place extent (suc room) i) (few, a)
-        by true i rest =
-            let one = range-piece count table (seenAt text s .past) few (agrees-past text w 300 (inBracket count) refl refl few s i a) in
-            rw (bits-on text count table s place extent (suc room) room _ refl i refl) (rest _ _ _ (one .0) (one .1))
+    unfolding moreBits bitsTurn tallied tooMuch passesAt onward
+    more-bits room count table s few a =
+        loop-keeps text (λ (f : Filed). f .pieces .step) (λ kind. eqb kind 300) (bitsTurn text place extent) (Counted inBracket)
+        (λ f i a. range-piece (f .pieces .count) (f .table) (seenAt text (f .pieces .step) .past) (a .0)
+        (agrees-past text w 300 (inBracket (f .pieces .count)) refl refl (a .0) (f .pieces .step) i (a .1)))
+        room (record { pieces = record { count = count; step = s }; table = table }) (few, a)
 
     -- range (, range)* ]
     in-bracket : (count : ℕ) (table : List ℕ) (s : Step) → ltb 8 count ≡ false → Agrees text w (inBracket (suc count)) s → Counted inPiece (bracketAfter text place extent count table s)
@@ -99,17 +94,12 @@ module _ (text : List ℕ) (w : Option ℕ) (registers variables : ℕ) where
 
   -- (# piece)*
   more-pieces : (room count : ℕ) (table : List ℕ) (s : Step) → ltb 8 count ≡ false → Agrees text w (inPiece count) s → Counted inPiece (morePieces text room count table s)
-  unfolding morePieces tallied tooMuch passesAt onward
-  more-pieces zero count table s few a = (few, a)
-  more-pieces (suc room) count table s few a = by (eqb (seenAt text s .kind) 291) refl (more-pieces room)
-    where
-      by : (b : Bool) → eqb (seenAt text s .kind) 291 ≡ b
-          → ((count : ℕ) (table : List ℕ) (t : Step) → ltb 8 count ≡ false → Agrees text w (inPiece count) t → Counted inPiece (morePieces text room count table t))
-          → Counted inPiece (morePieces text (suc room) count table s)
-      by false i rest = rw (pieces-end text count table s (suc room) i) (few, a)
-      by true i rest =
-          let one = one-piece count table (seenAt text s .past) few (agrees-past text w 291 (inPiece count) refl refl few s i a) in
-          rw (pieces-on text count table s (suc room) room _ refl i refl) (rest _ _ _ (one .0) (one .1))
+  unfolding morePieces pieceTurn tallied tooMuch passesAt onward
+  more-pieces room count table s few a =
+      loop-keeps text (λ (f : Filed). f .pieces .step) (λ kind. eqb kind 291) (pieceTurn text) (Counted inPiece)
+      (λ f i a. one-piece (f .pieces .count) (f .table) (seenAt text (f .pieces .step) .past) (a .0)
+      (agrees-past text w 291 (inPiece (f .pieces .count)) refl refl (a .0) (f .pieces .step) i (a .1)))
+      room (record { pieces = record { count = count; step = s }; table = table }) (few, a)
 
   -- THE PIECES OF A LIST
   pub agrees-pieces : (table : List ℕ) (s : Step) → Agrees text w (inPiece 1) s → Counted inPiece (piecesAfter text table s)
@@ -156,13 +146,10 @@ module _ (text : List ℕ) (w : Option ℕ) (registers variables : ℕ) where
 
   -- (, behaviour)*
   behaviours : (room : ℕ) (b : Behaviours) (s : Step) → InVariable s → InVariable (moreBehaviours text room b s .step)
-  unfolding moreBehaviours
-  behaviours zero b s a = a
-  behaviours (suc room) b s a = by (eqb (seenAt text s .kind) 300) refl (behaviours room)
-    where
-      by : (c : Bool) → eqb (seenAt text s .kind) 300 ≡ c → ((b : Behaviours) (t : Step) → InVariable t → InVariable (moreBehaviours text room b t .step)) → InVariable (moreBehaviours text (suc room) b s .step)
-      by false i rest = rw (behaviours-end text b s (suc room) i) a
-      by true i rest = rw (behaviours-on text b s (suc room) room refl i) (rest _ _ (1, refl, behaviour b _ (comma-past (a .0) (a .1) s i (a .2))))
+  unfolding moreBehaviours behaviourTurn
+  behaviours room b s a =
+      loop-keeps text (λ (m : Behaved). m .step) (λ kind. eqb kind 300) (behaviourTurn text) (λ m. InVariable (m .step))
+      (λ m i a. (1, refl, behaviour (m .behaviours) _ (comma-past (a .0) (a .1) (m .step) i (a .2)))) room (record { behaviours = b; step = s }) a
 
   -- pieces | trigger
   second-marked : (mark : ℕ) (table : List ℕ) (s : Step) → Agrees text w (inPiece 1) s → InVariable (secondMarked text mark table s .tail .step)
