@@ -10,8 +10,16 @@ use Rattle.token.specs.Word.{isLetter, isNameByte, reserved, wordOf}
 use Rattle.token.specs.Number.{digitOf, isDigit, valueFrom, prefixed, digitsOf}
 use Rattle.token.specs.Sign.{longSigns, isSignByte, longSign, signNumber, longestSign, signWidth}
 use Rattle.token.specs.Scan.{isBit, badToken, nameToken, nameFrom, numberToken, numberFrom, bitsToken, bitsFrom, signToken, signHere, signFrom, tokenBy, tokenFrom, scanFrom, scanRest, scanAt}
+use Rattle.token.specs.Kind.{kindOf}
 use Rattle.token.specs.Tokens.{listed, tokensFrom}
-use Rattle.syntax.specs.Sizes.{ended, closed, asksOperand, onward, passesAt, nothingYet, tallied, longName, tooMuch, passedIn, passedAt}
+use Rattle.syntax.specs.Sizes.{'register', 'variable', sign, ended, closed, asksOperand, onward, passesAt, nothingYet, tallied, longName, tooMuch, passedIn, passedAt}
+
+-- the words and signs that the count asks for have these kinds, as the scanner computes them
+pub kinds :
+    map (λ (s : String). kindOf (scanAt (bytes s) 0 .token)) ("register" ∷ "variable" ∷ "(" ∷ ")" ∷ "{" ∷ "}" ∷ "[" ∷ "]" ∷ "," ∷ ";" ∷ "#" ∷ "@" ∷ "+" ∷ "-" ∷ "*" ∷ "/" ∷ "%" ∷ [])
+    ≡ 'register' ∷ 'variable' ∷ sign "(" ∷ sign ")" ∷ sign "{" ∷ sign "}" ∷ sign "[" ∷ sign "]" ∷ sign "," ∷ sign ";" ∷ sign "#" ∷ sign "@" ∷ sign "+" ∷ sign "-" ∷ sign "*" ∷ sign "/" ∷ sign "%" ∷ []
+unfolding scanAt scanRest scanFrom tokenFrom tokenBy nameFrom nameToken numberFrom numberToken bitsFrom bitsToken signFrom signHere signToken badToken isBit gapFrom isBlank isLetter isNameByte reserved wordOf digitOf isDigit valueFrom prefixed digitsOf longSigns isSignByte longSign signNumber longestSign signWidth same begins oneOf within firstTrue runFrom
+kinds = refl
 
 -- so many times the bytes
 pub times : ℕ → List ℕ → List ℕ
