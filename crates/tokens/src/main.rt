@@ -3,25 +3,29 @@
 use syntax::Step;
 use token::Token;
 
-// A token's kind and place, and what else it tells: a length, an index, a value or a number.
-fn item(kind: &[u8], place: usize, joint: &[u8], detail: usize) {
-    io::write_all(1, kind);
-    io::write_all(1, b"@");
-    io::print_decimal(1, place as u64);
-    io::write_all(1, joint);
-    io::print_decimal(1, detail as u64);
-    io::write_all(1, b" ");
+fn number_after(word: &[u8], number: usize) {
+    io::write_all(1, word);
+    io::print_decimal(1, number as u64);
 }
 
-fn show(t: Token) {
+// A token's kind, its first byte's place, and the place behind it.
+fn item(kind: &[u8], place: usize, next: usize) {
+    number_after(kind, place);
+    number_after(b"..", next);
+}
+
+fn show(t: Token, next: usize) {
     match t {
-        Token::Name(place, length) => item(b"name", place, b"+", length),
-        Token::Word(place, word) => item(b"word", place, b":", word as usize),
-        Token::Number(place, value) => item(b"number", place, b"=", value as usize),
-        Token::Bits(place, length) => item(b"bits", place, b"+", length),
-        Token::Sign(place, sign) => item(b"sign", place, b":", sign as usize),
-        Token::End(place) => item(b"end", place, b":", 0),
-        Token::Bad(place) => item(b"bad", place, b":", 0),
+        Token::Name(place, _) => item(b" name ", place, next),
+        Token::Word(place, _) => item(b" word ", place, next),
+        Token::Number(place, value) => {
+            item(b" number ", place, next);
+            number_after(b"=", value as usize);
+        }
+        Token::Bits(place, _) => item(b" bits ", place, next),
+        Token::Sign(place, _) => item(b" sign ", place, next),
+        Token::End(place) => number_after(b" end ", place),
+        Token::Bad(place) => number_after(b" bad ", place),
     }
 }
 
@@ -31,7 +35,7 @@ fn show_tokens(text: &[u8]) {
     loop {
         let found = token::scan(text, at);
         let next = found.token;
-        show(next);
+        show(next, found.next);
         if token::goes_on(next) {
             at = found.next;
         } else {
@@ -39,11 +43,6 @@ fn show_tokens(text: &[u8]) {
             return;
         }
     }
-}
-
-fn number_after(word: &[u8], number: usize) {
-    io::write_all(1, word);
-    io::print_decimal(1, number as u64);
 }
 
 fn show_reading(text: &[u8]) {
@@ -64,6 +63,7 @@ fn show_reading(text: &[u8]) {
 }
 
 fn show_text(text: &[u8]) {
+    io::write_all(1, b"tokens");
     show_tokens(text);
     show_reading(text);
 }

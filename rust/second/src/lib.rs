@@ -20,7 +20,7 @@ pub use description::{
     Bits, Description, Kind, Mask, Name, OffsetRange, Parameter, Part, Piece, Port, Register,
     Variable, PARTS,
 };
-pub use load::{load, Refusal, Verdict, TEXT_BYTES};
+pub use load::{load, outline, Counts, Outline, Refusal, Verdict, TEXT_BYTES};
 pub use sound::sound;
 pub use station::{
     abandon, begin_read, begin_write, confirm, open, Access, Answer, Operation, Tables,
@@ -29,4 +29,4 @@ pub use syntax::{DEPTH, NAME_BYTES, PARAMETERS, PIECES, RANGES, REGISTERS, VARIA
 pub use tables::{
     describe, load_into, lookup, tables, Loaded, PARAMETER_WORDS, REGISTER_WORDS, VARIABLE_WORDS,
 };
-pub use token::RESERVED;
+pub use token::{scan, Lexeme, Sign, Token, Word, RESERVED};

@@ -2,9 +2,9 @@
 
 use std::fmt;
 
-use crate::description::Description;
+use crate::description::{Description, Name};
 use crate::rules::Judge;
-use crate::syntax::{Reader, REGISTERS, VARIABLES};
+use crate::syntax::{ParameterText, Reader, RegisterText, VariableText, REGISTERS, VARIABLES};
 use crate::token::{Token, Word};
 
 /// The longest text, in bytes.
@@ -45,24 +45,58 @@ pub fn load(text: &[u8]) -> Verdict {
     }
 }
 
-/// Reads the whole text (3 to 5). Each declaration is judged (6 to 15) as soon as it is read, but
-/// the first rule broken waits until the text has been read to its end.
-fn describe(text: &[u8]) -> Result<Description, Refusal> {
-    if text.len() > TEXT_BYTES {
-        return Err(Refusal {
-            number: 2,
-            place: 0,
-        });
-    }
-    let mut reader = Reader::new(text)?;
-    let mut judge = Judge::new(text);
+/// What a text declares, in its order.
+enum Declared<'t> {
+    Device(Name),
+    Parameter(ParameterText),
+    Register(RegisterText<'t>),
+    Variable(VariableText),
+}
 
-    let mut broken = judge.device(reader.heading()?);
+/// How much a text declares.
+#[derive(Clone, Copy, Debug, PartialEq, Eq)]
+pub struct Counts {
+    pub parameters: usize,
+    pub registers: usize,
+    pub variables: usize,
+}
+
+/// What reading a text comes to, its rules aside: how much it declares, or refusal 3, 4 or 5.
+#[derive(Clone, Copy, Debug, PartialEq, Eq)]
+pub enum Outline {
+    Reads(Counts),
+    Refused(Refusal),
+}
+
+impl fmt::Display for Outline {
+    fn fmt(&self, f: &mut fmt::Formatter) -> fmt::Result {
+        match self {
+            Outline::Reads(counts) => write!(
+                f,
+                "reads {} {} {}",
+                counts.parameters, counts.registers, counts.variables
+            ),
+            Outline::Refused(Refusal { number, place }) => write!(f, "refused {number} {place}"),
+        }
+    }
+}
+
+pub fn outline(text: &[u8]) -> Outline {
+    match read(text, |_| ()) {
+        Ok(counts) => Outline::Reads(counts),
+        Err(refusal) => Outline::Refused(refusal),
+    }
+}
+
+/// Reads the whole text (3 to 5) and hands on each declaration as soon as it is read.
+fn read<'t>(text: &'t [u8], mut each: impl FnMut(Declared<'t>)) -> Result<Counts, Refusal> {
+    let mut reader = Reader::new(text)?;
+    each(Declared::Device(reader.heading()?));
     let mut parameters = 0;
     loop {
         let parameter = reader.parameter(parameters)?;
         parameters += 1;
-        broken = broken.and_then(|()| judge.parameter(parameter));
+        each(Declared::Parameter(parameter));
         if !reader.another_parameter()? {
             break;
         }
@@ -75,21 +109,46 @@ fn describe(text: &[u8]) -> Result<Description, Refusal> {
             Token::Word(Word::Register) => {
                 reader.declaration_word(registers, REGISTERS)?;
                 registers += 1;
-                let register = reader.register()?;
-                broken = broken.and_then(|()| judge.register(register));
+                each(Declared::Register(reader.register()?));
             }
             Token::Word(Word::Variable) => {
                 reader.declaration_word(variables, VARIABLES)?;
                 variables += 1;
-                let variable = reader.variable()?;
-                broken = broken.and_then(|()| judge.variable(variable));
+                each(Declared::Variable(reader.variable()?));
             }
             _ if registers + variables == 0 => return reader.refuse(4),
             _ => break,
         }
     }
     reader.finish()?;
+    Ok(Counts {
+        parameters,
+        registers,
+        variables,
+    })
+}
 
+/// Each declaration is judged (6 to 15) as soon as it is read, but the first rule broken waits until the text has been read
+/// to its end.
+fn describe(text: &[u8]) -> Result<Description, Refusal> {
+    if text.len() > TEXT_BYTES {
+        return Err(Refusal {
+            number: 2,
+            place: 0,
+        });
+    }
+    let mut judge = Judge::new(text);
+    let mut broken = Ok(());
+    read(text, |declared| {
+        if broken.is_ok() {
+            broken = match declared {
+                Declared::Device(name) => judge.device(name),
+                Declared::Parameter(parameter) => judge.parameter(parameter),
+                Declared::Register(register) => judge.register(register),
+                Declared::Variable(variable) => judge.variable(variable),
+            };
+        }
+    })?;
     broken?;
     judge.finish()
 }
