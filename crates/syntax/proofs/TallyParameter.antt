@@ -1,18 +1,19 @@
 -- The parameter's readers agree with the count of sizes.
 -- Assumes nothing.
-use Prim.Native.Nat.{ℕ, zero, suc, _+_}
+use Prim.Native.Nat.{ℕ, suc, _+_}
 use native.Mathlib.Omega.{arith}
 use mathlib.Core.Path.{_≡_, refl, sym, subst}
 use mathlib.Core.Bool.{Bool, true, false}
 use mathlib.Core.List.{List}
 use mathlib.Core.Option.{Option}
-use lib.Dec.{eqb, ltb}
-use borrow.Author.Tests.{lt-ltb, le-ltb}
+use lib.Dec.{eqb, leb, ltb}
+use lib.ListN.{length}
+use borrow.Author.Tests.{leb-true, leb-false, lt-ltb, le-ltb}
 use Rattle.syntax.specs.declared.reader.Step.{Step}
-use Rattle.syntax.specs.Reader.{seenAt, fixedAfter, numberAfter}
-use Rattle.syntax.specs.Parameter.{widthAfter, rangeTo, rangeAfter, extraRange, moreRanges, rangesAfter, closedSet, setAfter, parameterAfter}
+use Rattle.syntax.specs.Reader.{seenAt, numberAfter}
+use Rattle.syntax.specs.Parameter.{Listed, widthAfter, rangeTo, rangeAfter, extraRange, nextRange, rangeTurn, moreRanges, rangesAfter, closedSet, setAfter, parameterAfter}
 use Rattle.syntax.specs.Sizes.{parameter, range, onward, passesAt, Tally, tallied, tooMuch}
-use Rattle.syntax.proofs.RangeSteps.{more-end, more-full, more-on}
+use Rattle.syntax.proofs.LoopSteps.{loop-keeps}
 use Rattle.syntax.proofs.Follows.{number-is}
 use Rattle.syntax.proofs.Tally.{Agrees, Quiet, agrees-tok, agrees-quiet, agrees-past, agrees-name, agrees-extra-number}
 
@@ -49,30 +50,30 @@ module _ (text : List ℕ) (w : Option ℕ) where
     abbrev inRange : ℕ → ℕ → Tally
     inRange n m = record { registers = registers; variables = variables; spot = range n m }
 
-    -- (, range)* }, `room` more ranges behind the m-th
-    more-agree : (n : ℕ) (room m : ℕ) → m + room ≡ 16 → (count : ℕ) (table : List ℕ) (s : Step) → Agrees text w (inRange n m) s
-        → Agrees text w (inParameter n) (fixedAfter text 381 (moreRanges text room count table s .ranges .step))
-    unfolding extraRange tallied tooMuch passesAt onward
-    more-agree n zero m h count table s a = by (eqb (seenAt text s .kind) 300) refl
+    -- so many ranges have been read, in the n-th parameter
+    abbrev Counted : ℕ → Listed → Type 0
+    Counted n l = (ltb 16 (l .ranges .count) ≡ false) × Agrees text w (inRange n (l .ranges .count)) (l .ranges .step)
+
+    -- one more range, or one too many
+    next-agrees : (n count : ℕ) (table : List ℕ) (s : Step) → ltb 16 count ≡ false → Agrees text w (inRange n (suc count)) s → Counted n (nextRange text count table s)
+    unfolding nextRange extraRange tallied tooMuch passesAt onward
+    next-agrees n count table s few a = by (leb 16 count) refl
       where
-        by : (b : Bool) → eqb (seenAt text s .kind) 300 ≡ b → Agrees text w (inParameter n) (fixedAfter text 381 (moreRanges text 0 count table s .ranges .step))
-        by false i = rw (more-end text count table s 0 i) (agrees-tok text w 381 (inRange n m) refl refl (le-ltb 16 m (omega arith)) s a)
-        by true i =
-            rw (more-full text count table s 0 refl i)
-            (agrees-tok text w 381 (inRange n 1) refl refl refl _
-            (agrees-extra-number text w (inRange n (suc m)) (inRange n 1) (lt-ltb 16 (suc m) (omega arith)) (seenAt text s .past)
-            (agrees-past text w 300 (inRange n m) refl refl (le-ltb 16 m (omega arith)) s i a)))
-    more-agree n (suc room) m h count table s a =
-        by (eqb (seenAt text s .kind) 300) refl (λ table t. more-agree n room (suc m) (omega arith) (count + 1) table t)
-      where
-        by : (b : Bool) → eqb (seenAt text s .kind) 300 ≡ b
-            → ((table : List ℕ) (t : Step) → Agrees text w (inRange n (suc m)) t → Agrees text w (inParameter n) (fixedAfter text 381 (moreRanges text room (count + 1) table t .ranges .step)))
-            → Agrees text w (inParameter n) (fixedAfter text 381 (moreRanges text (suc room) count table s .ranges .step))
-        by false i rest = rw (more-end text count table s (suc room) i) (agrees-tok text w 381 (inRange n m) refl refl (le-ltb 16 m (omega arith)) s a)
-        by true i rest =
-            rw (more-on text count table s (suc room) room refl i)
-            (rest _ _ (agrees-range (inRange n (suc m)) (le-ltb 16 (suc m) (omega arith), refl) (le-ltb 16 (suc m) (omega arith), refl) (seenAt text s .past)
-            (agrees-past text w 300 (inRange n m) refl refl (le-ltb 16 m (omega arith)) s i a)))
+        by : (b : Bool) → leb 16 count ≡ b → Counted n (nextRange text count table s)
+        by true e = rw e (few, agrees-extra-number text w (inRange n (suc count)) (inRange n count) (lt-ltb 16 (suc count) (omega (arith, leb-true 16 count e))) s a)
+        by false e =
+            let fits = le-ltb 16 (suc count) (leb-false 16 count e) in
+            let more : suc count ≡ count + 1 = omega arith in
+            rw e (subst (λ (m : ℕ). (ltb 16 m ≡ false) × Agrees text w (inRange n m) (rangeAfter text s .step)) more (fits, agrees-range (inRange n (suc count)) (fits, refl) (fits, refl) s a))
+
+    -- (, range)*
+    more-agree : (n room count : ℕ) (table : List ℕ) (s : Step) → ltb 16 count ≡ false → Agrees text w (inRange n count) s → Counted n (moreRanges text room count table s)
+    unfolding moreRanges rangeTurn tallied tooMuch passesAt onward
+    more-agree n room count table s few a =
+        loop-keeps text (λ (l : Listed). l .ranges .step) (λ kind. eqb kind 300) (rangeTurn text) (Counted n)
+        (λ l i a. next-agrees n (l .ranges .count) (l .table) (seenAt text (l .ranges .step) .past) (a .0)
+        (agrees-past text w 300 (inRange n (l .ranges .count)) refl refl (a .0) (l .ranges .step) i (a .1)))
+        room (record { ranges = record { count = count; step = s }; table = table }) (few, a)
 
     -- (@ { ranges })?
     agrees-set : (n : ℕ) → ltb 16 n ≡ false → (table : List ℕ) (s : Step) → Agrees text w (inParameter n) s → Agrees text w (inParameter n) (setAfter text table s .ranges .step)
@@ -82,8 +83,9 @@ module _ (text : List ℕ) (w : Option ℕ) where
         by : (b : Bool) → eqb (seenAt text s .kind) 320 ≡ b → Agrees text w (inParameter n) (setAfter text table s .ranges .step)
         by false i = rw i a
         by true i =
-            rw i (more-agree n 15 1 refl 1 _ _ (agrees-range (inRange n 1) (refl, refl) (refl, refl) _
-            (agrees-tok text w 379 (inParameter n) refl refl fits _ (agrees-past text w 320 (inParameter n) refl refl fits s i a))))
+            let one = next-agrees n 0 table _ refl (agrees-tok text w 379 (inParameter n) refl refl fits _ (agrees-past text w 320 (inParameter n) refl refl fits s i a)) in
+            let all = more-agree n (length text) _ _ _ (one .0) (one .1) in
+            rw i (agrees-tok text w 381 (inRange n _) refl refl (all .0) _ (all .1))
 
     -- THE PARAMETER
     pub agrees-parameter : (n : ℕ) → ltb 16 n ≡ false → (table : List ℕ) (s : Step) → Agrees text w (inParameter n) s → Agrees text w (inParameter n) (parameterAfter text table s .parameter .step)

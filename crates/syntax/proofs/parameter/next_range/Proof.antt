@@ -1,0 +1,41 @@
+use mathlib.Core.Path.{refl}
+use Rattle.syntax.specs.Parameter.{nextRange}
+use borrow.Author.Tests.{le-leb, lt-leb}
+use borrow.Author.Needs.{needs}
+use Rattle.syntax.proofs.parameter.next_range.Statement.{statement}
+use Rattle.syntax.proofs.parameter.next_range.Tie as tie
+
+extra-range-requires : tie.Need-extra-range-requires
+extra-range-requires c κs = search needs
+
+returns : tie.Need-returns
+unfolding nextRange
+returns c = rw (nextRange, le-leb _ _ (c .before .if1 .taken), ← c .extra-range .ensures) (refl, refl)
+
+range-after-requires : tie.Need-range-after-requires
+range-after-requires c κs = search needs
+
+store-range-requires : tie.Need-store-range-requires
+store-range-requires c κs = search needs
+
+add-more : tie.Need-add-more
+add-more c = search needs
+
+same-length : tie.Need-same-length
+same-length c = search needs
+
+returns-2 : tie.Need-returns-2
+unfolding nextRange
+returns-2 c = rw (nextRange, lt-leb _ _ (c .before .before .before .before .before .if1 .left), ← c .before .before .before .before .range-after .ensures) (refl, c .before .before .store-range .ensures)
+
+pub next-range-spec : {M : Type 1} → statement M
+next-range-spec =
+    tie.close
+    (tie.spec
+    extra-range-requires
+    returns
+    range-after-requires
+    store-range-requires
+    add-more
+    same-length
+    returns-2)
