@@ -12,12 +12,16 @@ use Rattle.token.specs.Sign.{longSigns, isSignByte, longSign, signNumber, longe
 use Rattle.token.specs.Scan.{isBit, badToken, nameToken, nameFrom, numberToken, numberFrom, bitsToken, bitsFrom, signToken, signHere, signFrom, tokenBy, tokenFrom, scanFrom, scanRest, scanAt}
 use Rattle.token.specs.Kind.{kindOf}
 use Rattle.token.specs.Tokens.{listed, tokensFrom}
-use Rattle.syntax.specs.Sizes.{'register', 'variable', sign, ended, closed, asksOperand, onward, passesAt, nothingYet, tallied, longName, tooMuch, passedIn, passedAt}
+use Rattle.syntax.specs.KindNames.{sign, dots, 'bit', 'bool', 'device', 'int', 'mask', 'port', 'read', 'register', 'trigger', 'variable', 'volatile', 'write', 'signed'}
+use Rattle.syntax.specs.Sizes.{ended, closed, asksOperand, onward, passesAt, nothingYet, tallied, longName, tooMuch, passedIn, passedAt}
 
--- the words and signs that the count asks for have these kinds, as the scanner computes them
+-- the words and signs that are named have just these kinds, as the scanner computes them
 pub kinds :
-    map (λ (s : String). kindOf (scanAt (bytes s) 0 .token)) ("register" ∷ "variable" ∷ "(" ∷ ")" ∷ "{" ∷ "}" ∷ "[" ∷ "]" ∷ "," ∷ ";" ∷ "#" ∷ "@" ∷ "+" ∷ "-" ∷ "*" ∷ "/" ∷ "%" ∷ [])
-    ≡ 'register' ∷ 'variable' ∷ sign "(" ∷ sign ")" ∷ sign "{" ∷ sign "}" ∷ sign "[" ∷ sign "]" ∷ sign "," ∷ sign ";" ∷ sign "#" ∷ sign "@" ∷ sign "+" ∷ sign "-" ∷ sign "*" ∷ sign "/" ∷ sign "%" ∷ []
+    map (λ (s : String). kindOf (scanAt (bytes s) 0 .token))
+    ("bit" ∷ "bool" ∷ "device" ∷ "int" ∷ "mask" ∷ "port" ∷ "read" ∷ "register" ∷ "trigger" ∷ "variable" ∷ "volatile" ∷ "write" ∷ "signed"
+    ∷ "(" ∷ ")" ∷ "{" ∷ "}" ∷ "[" ∷ "]" ∷ "," ∷ ";" ∷ ":" ∷ "=" ∷ "#" ∷ "@" ∷ "+" ∷ "-" ∷ "*" ∷ "/" ∷ "%" ∷ ".." ∷ [])
+    ≡ 'bit' ∷ 'bool' ∷ 'device' ∷ 'int' ∷ 'mask' ∷ 'port' ∷ 'read' ∷ 'register' ∷ 'trigger' ∷ 'variable' ∷ 'volatile' ∷ 'write' ∷ 'signed'
+    ∷ sign "(" ∷ sign ")" ∷ sign "{" ∷ sign "}" ∷ sign "[" ∷ sign "]" ∷ sign "," ∷ sign ";" ∷ sign ":" ∷ sign "=" ∷ sign "#" ∷ sign "@" ∷ sign "+" ∷ sign "-" ∷ sign "*" ∷ sign "/" ∷ sign "%" ∷ dots ∷ []
 unfolding scanAt scanRest scanFrom tokenFrom tokenBy nameFrom nameToken numberFrom numberToken bitsFrom bitsToken signFrom signHere signToken badToken isBit gapFrom isBlank isLetter isNameByte reserved wordOf digitOf isDigit valueFrom prefixed digitsOf longSigns isSignByte longSign signNumber longestSign signWidth same begins oneOf within firstTrue runFrom
 kinds = refl
 

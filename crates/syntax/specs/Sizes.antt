@@ -1,7 +1,6 @@
 -- Document 01, "Sizes" and refusal 5: at which token of a text a size is first passed. It is a count over the tokens from left to right, and knows nothing of
 -- how a text is read. It is meant as far as the tokens begin a text of the grammar; from the token on that breaks it, refusal 3 or 4 is given before.
-use Prim.Native.Nat.{ℕ, suc, _+_, _≤_}
-use Prim.Native.Char.{Char, code}
+use Prim.Native.Nat.{ℕ, suc, _≤_}
 use mathlib.Core.Path.{_≡_}
 use mathlib.Core.Logic.{_⊎_}
 use mathlib.Core.Bool.{Bool, true, false, _&&_, _||_}
@@ -16,29 +15,8 @@ use Rattle.token.specs.Kind.{pick, kindOf}
 use Rattle.token.specs.Tokens.{tokensOf}
 use Rattle.syntax.specs.declared.reader.Step.{Step}
 use Rattle.syntax.specs.declared.reader.Step.the-variants.{At, Refused}
-
--- ---- the sizes: of names, of the lists of a text, and of what may enclose a number in an offset
-
-abbrev pub nameBytes : ℕ
-nameBytes = 64
-
-abbrev pub mostParameters : ℕ
-mostParameters = 16
-
-abbrev pub mostRanges : ℕ
-mostRanges = 16
-
-abbrev pub mostRegisters : ℕ
-mostRegisters = 64
-
-abbrev pub mostVariables : ℕ
-mostVariables = 128
-
-abbrev pub mostPieces : ℕ
-mostPieces = 8
-
-abbrev pub deepest : ℕ
-deepest = 16
+use Rattle.syntax.specs.Limits.{nameBytes, mostParameters, mostRanges, mostRegisters, mostVariables, mostPieces, deepest}
+use Rattle.syntax.specs.KindNames.{sign, 'register', 'variable'}
 
 -- ---- where a token stands, and what is counted there
 
@@ -56,16 +34,6 @@ pub data Spot : Type 0 where
   operand : List Encloser → Spot  -- in an offset where an operand is due, with what will enclose it, innermost first
   piece : ℕ → Spot  -- in a variable, in the piece of this number of a bit list
   bracket : ℕ → Spot  -- the same, in the brackets of a register, where each range is a piece
-
--- the kind of a sign of one byte, and of the two words that are counted
-abbrev pub sign : Char → ℕ
-sign c = 256 + code c
-
-abbrev pub 'register' : ℕ
-'register' = 529
-
-abbrev pub 'variable' : ℕ
-'variable' = 537
 
 -- A minus ends with its operand; a parenthesis where it is closed, and with it the minuses before it.
 unfoldable pub ended : List Encloser → List Encloser

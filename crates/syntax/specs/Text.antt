@@ -10,6 +10,8 @@ use Rattle.syntax.specs.declared.reader.Step.the-variants.{At, Refused}
 use Rattle.syntax.specs.declared.reader.Named.{Named}
 use Rattle.syntax.specs.declared.register.Register.{Register}
 use Rattle.syntax.specs.declared.text.Outline.{Outline}
+use Rattle.syntax.specs.Limits.{mostParameters, mostRegisters, mostVariables}
+use Rattle.syntax.specs.KindNames.{sign, 'register', 'variable', end-kind}
 use Rattle.syntax.specs.Reader.{seenAt, placeAt, fixedAfter}
 use Rattle.syntax.specs.Heading.{headAfter}
 use Rattle.syntax.specs.Parameter.{ParameterRead, tooMany, extraName, parameterAfter}
@@ -34,7 +36,7 @@ pub record Progress (X : Type 0) : Type 0 where
 
 -- a register or a variable begins
 unfoldable pub begins : ℕ → Bool
-begins kind = eqb kind 529 || eqb kind 537
+begins kind = eqb kind 'register' || eqb kind 'variable'
 
 -- one word too many
 unfoldable pub extraWord : List ℕ → ℕ → Step → Step
@@ -68,34 +70,34 @@ module _ {X : Type 0} (judge : X → Declaration → X) where
         let head : Named = headAfter text (p .step) in
         taken p (aDevice head) (head .step)
 
-    -- a parameter; the seventeenth is refused at its name
+    -- a parameter; one too many is refused at its name
     unfoldable pub parameterWith : Progress X → Progress X
     parameterWith p =
         let one : ParameterRead = parameterAfter text (replicate 32 0) (p .step) in
-        pick (leb 16 (p .parameters)) (movedTo p (extraName text (p .step)))
+        pick (leb mostParameters (p .parameters)) (movedTo p (extraName text (p .step)))
         (taken p (aParameter one) (one .parameter .step))
 
     -- (, param)*
     unfoldable pub moreParameters : ℕ → Progress X → Progress X
-    moreParameters = loopWith text (λ p. p .step) (λ kind. eqb kind 300) (λ p. parameterWith (movedTo p (seenAt text (p .step) .past)))
+    moreParameters = loopWith text (λ p. p .step) (λ kind. eqb kind (sign ",")) (λ p. parameterWith (movedTo p (seenAt text (p .step) .past)))
 
     -- register ;
     unfoldable pub registerWith : Progress X → Progress X
     registerWith p =
         let one : Register = registerAfter text (p .step) in
-        pick (leb 64 (p .registers)) (movedTo p (extraWord text 529 (p .step)))
-        (taken p (aRegister one) (fixedAfter text 315 (one .step)))
+        pick (leb mostRegisters (p .registers)) (movedTo p (extraWord text 'register' (p .step)))
+        (taken p (aRegister one) (fixedAfter text (sign ";") (one .step)))
 
     -- variable ;
     unfoldable pub variableWith : Progress X → Progress X
     variableWith p =
         let one : VariableRead = variableAfter text (replicate 40 0) (replicate 40 0) (p .step) in
-        pick (leb 128 (p .variables)) (movedTo p (extraWord text 537 (p .step)))
-        (taken p (aVariable one) (fixedAfter text 315 (one .variable .step)))
+        pick (leb mostVariables (p .variables)) (movedTo p (extraWord text 'variable' (p .step)))
+        (taken p (aVariable one) (fixedAfter text (sign ";") (one .variable .step)))
 
     -- a declaration ; by its first word
     unfoldable pub declarationWith : Progress X → Progress X
-    declarationWith p = pick (eqb (seenAt text (p .step) .kind) 529) (registerWith p) (variableWith p)
+    declarationWith p = pick (eqb (seenAt text (p .step) .kind) 'register') (registerWith p) (variableWith p)
 
     -- (declaration ;)*
     unfoldable pub moreDeclarations : ℕ → Progress X → Progress X
@@ -105,19 +107,19 @@ module _ {X : Type 0} (judge : X → Declaration → X) where
     unfoldable pub parametersWith : Progress X → Progress X
     parametersWith p =
         let all : Progress X = moreParameters (length text) (parameterWith (headWith p)) in
-        movedTo all (fixedAfter text 297 (all .step))
+        movedTo all (fixedAfter text (sign ")") (all .step))
 
     -- { (declaration ;)+ }
     unfoldable pub declarationsWith : Progress X → Progress X
     declarationsWith p =
-        let all : Progress X = moreDeclarations (length text) (declarationWith (movedTo p (fixedAfter text 379 (p .step)))) in
-        movedTo all (fixedAfter text 381 (all .step))
+        let all : Progress X = moreDeclarations (length text) (declarationWith (movedTo p (fixedAfter text (sign "{") (p .step)))) in
+        movedTo all (fixedAfter text (sign "}") (all .step))
 
     -- THE WHOLE TEXT, from `x` on: it reads where its step is `At`.
     unfoldable pub readingWith : X → Progress X
     readingWith x =
         let all : Progress X = declarationsWith (parametersWith (record { parameters = 0; registers = 0; variables = 0; made = x; step = At 0 })) in
-        movedTo all (fixedAfter text 255 (all .step))
+        movedTo all (fixedAfter text end-kind (all .step))
 
 -- what a text declares, as a list
 unfoldable pub listed : List Declaration → Declaration → List Declaration
