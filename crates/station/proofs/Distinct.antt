@@ -11,7 +11,7 @@ use lib.ListN.{length, getD, length-append}
 use Rattle.tables.specs.declared.Part.{Part}
 use Rattle.tables.specs.View.{Tables, sound, partNo, Among, variableCount, bitsOf, registersOf}
 use Rattle.tables.proofs.Consistent.{sound-count}
-use Rattle.wiring.specs.declared.Part as Wired
+use Rattle.wiring.specs.declared.BitList as Wired
 use Rattle.wiring.specs.Pieces.{pieceOf}
 use Rattle.wiring.specs.Order as O
 use Rattle.station.specs.Variable.{partOf}
@@ -35,7 +35,7 @@ once-apart (s ∷ l) (suc i) (suc k) once hi hk e = once-apart l i k (once .1) (
 few-registers : (vs : List ℕ) (part : Wired.Part) (n : ℕ) → length (O.registersTo vs part n) ≤ n
 unfolding O.registersTo
 few-registers vs part zero = omega arith
-few-registers vs part (suc n) = go (O.mentions vs part (pieceOf vs part n .register) n) (few-registers vs part n)
+few-registers vs part (suc n) = go (O.isMentioned vs part (pieceOf vs part n .register) n) (few-registers vs part n)
   where
     go : (b : Bool) → length (O.registersTo vs part n) ≤ n
         → length (O.pickList b (O.registersTo vs part n) (O.registersTo vs part n ++ (pieceOf vs part n .register ∷ []))) ≤ suc n

@@ -6,9 +6,9 @@ use mathlib.Core.List.{List, _∷_, _++_}
 use lib.ListN.{replicate, set}
 use Rattle.bits.specs.Bits.{bit}
 use Rattle.tables.specs.Every.{every, some, zerosFront}
-use Rattle.tables.specs.Marks.{joined, downFrom, has, meets, distinct}
-use Rattle.tables.specs.Rules.{rangesFit, parameterFault, parameterShape, offsetIn, placed, placeTaken, registerFault, registerPartShape, registerShape, onDots, pieceFits, partMaps, widthFits, typeFits, volatileFits, ownFault, variablePartShape, variableShape, mappedBefore, triggerShared, covered}
-use Rattle.tables.specs.Sound.{tablesFit, restZero, shapesFit, variableFault, rulesKept, sound}
+use Rattle.tables.specs.Marks.{distinct, downFrom, has, joined, meets}
+use Rattle.tables.specs.Rules.{covered, mappedBefore, offsetIn, onDots, ownFault, parameterFault, parameterShape, partMaps, pieceFits, placeTaken, placed, rangesFit, registerFault, registerPartShape, registerShape, triggerShared, typeFits, variableFault, variablePartShape, variableShape, volatileFits, widthFits}
+use Rattle.tables.specs.Sound.{restZero, rulesKept, shapesFit, sound, tablesFit}
 
 -- the tables of `device d(base:bit[8] port){register r=base:bit[8];variable v=r:int(8);}`
 pub parametersA : List ℕ

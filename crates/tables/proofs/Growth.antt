@@ -10,12 +10,13 @@ use native.Mathlib.Nat.{not-suc-le-zero, le-of-suc-le-suc, eq-or-lt-of-le}
 use lib.Dec.{eqb, leb, ltb}
 use lib.ListN.{getD, length, replicate}
 use borrow.Author.Tests.{ltb-true, ltb-false, lt-ltb}
-use Rattle.tables.specs.Every.{every, zeros, firstOf}
-use Rattle.tables.specs.Marks.{marks, mapBy, distinct}
-use Rattle.tables.specs.Tables.{countOf, registerAt, registerPart, variableAt, variablePart, pieceCount, pieceAt, pieceRegister, pieceHigh, pieceLow, partBits}
-use Rattle.tables.specs.Rules.{onDots, pieceFits, partMaps, typeFits, volatileFits, ownFault, parameterShape, parameterFault, registerShape, registerFault, variableShape, mappedBefore, triggerShared, covered}
+use Rattle.tables.specs.Every.{every, firstOf, zeros}
+use Rattle.tables.specs.Marks.{distinct, mapBy, marks}
+use Rattle.tables.specs.Tables.{countOf, partBits, pieceAt, pieceIn, registerAt, registerPart, registerPartIn, variableAt, variablePart, variablePartIn}
+use Rattle.tables.specs.Words.{pieceCount, pieceHigh, pieceLow, pieceRegister}
+use Rattle.tables.specs.Rules.{covered, mappedBefore, onDots, ownFault, parameterFault, parameterShape, partMaps, pieceFits, registerFault, registerShape, triggerShared, typeFits, variableFault, variableShape, volatileFits}
 use Rattle.tables.specs.Scan.{Before, Entered, coveredBy}
-use Rattle.tables.specs.Sound.{tablesFit, restZero, shapesFit, rulesKept, variableFault, parameterGood, registerGood, variableGood, sound}
+use Rattle.tables.specs.Sound.{parameterGood, registerGood, restZero, rulesKept, shapesFit, sound, tablesFit, variableGood}
 use Rattle.tables.proofs.Laws.{and-left, and-right, every-at, every-is, every-and, first-le}
 use Rattle.tables.proofs.ZeroLaws.{zeros-at, zeros-are}
 use Rattle.tables.proofs.BelowLaws.{own-maps}
@@ -99,11 +100,11 @@ parameter-added {a} {b} rs vs s no-register no-variable added good =
 
 -- ---- a variable keeps its rules when registers are added
 module _ (a b vs : List ℕ) (more : countOf a ≤ countOf b) (same : Alike (registerAt (countOf a)) a b) where
-  dots-same : (p r low n : ℕ) → p < 2 → r < countOf a → onDots a (registerPart r p) low n ≡ onDots b (registerPart r p) low n
+  dots-same : (p r low n : ℕ) → p < 2 → r < countOf a → onDots (registerPartIn a (registerPart r p)) low n ≡ onDots (registerPartIn b (registerPart r p)) low n
   unfolding onDots
   dots-same p r low n h l = rw (same (registerPart r p) (omega arith) (omega arith), same (registerPart r p + 3) (omega arith) (omega arith))
 
-  piece-kept : (p piece : ℕ) → p < 2 → pieceFits a p vs piece ≡ true → pieceFits b p vs piece ≡ true
+  piece-kept : (p piece : ℕ) → p < 2 → pieceFits a p (pieceIn vs piece) ≡ true → pieceFits b p (pieceIn vs piece) ≡ true
   unfolding pieceFits
   piece-kept p piece h fits =
       let r = pieceRegister vs piece in
@@ -114,20 +115,20 @@ module _ (a b vs : List ℕ) (more : countOf a ≤ countOf b) (same : Alike (reg
       rw (and-left (leb (pieceHigh vs piece) 7) _ fits, and-left (leb (pieceLow vs piece) (pieceHigh vs piece)) _ low, lt-ltb r (countOf b) (omega arith))
       (sym (dots-same p r (pieceLow vs piece) (pieceHigh vs piece + 1 - pieceLow vs piece) h there) ∙ dots)
 
-  maps-kept : (p at : ℕ) → p < 2 → partMaps a p vs at ≡ true → partMaps b p vs at ≡ true
+  maps-kept : (p at : ℕ) → p < 2 → partMaps a p (variablePartIn vs at) ≡ true → partMaps b p (variablePartIn vs at) ≡ true
   unfolding partMaps
   maps-kept p at h maps =
       let n = pieceCount vs at in
-      let few = leb (length (partBits vs at)) 32 in
-      let pieces : List ℕ → Bool = λ rs. every n (λ k. pieceFits rs p vs (pieceAt at k)) in
-      let front = and-left (pieces a && distinct (partBits vs at)) few maps in
-      let kept : pieces b ≡ true = every-is n _ (λ k l. piece-kept p (pieceAt at k) h (every-at n _ (and-left (pieces a) (distinct (partBits vs at)) front) k l)) in
-      rw (kept, and-right (pieces a) (distinct (partBits vs at)) front, and-right (pieces a && distinct (partBits vs at)) few maps)
+      let few = leb (length (partBits (variablePartIn vs at))) 32 in
+      let pieces : List ℕ → Bool = λ rs. every n (λ k. pieceFits rs p (pieceIn vs (pieceAt at k))) in
+      let front = and-left (pieces a && distinct (partBits (variablePartIn vs at))) few maps in
+      let kept : pieces b ≡ true = every-is n _ (λ k l. piece-kept p (pieceAt at k) h (every-at n _ (and-left (pieces a) (distinct (partBits (variablePartIn vs at))) front) k l)) in
+      rw (kept, and-right (pieces a) (distinct (partBits (variablePartIn vs at))) front, and-right (pieces a && distinct (partBits (variablePartIn vs at))) few maps)
 
   own-kept : (v : ℕ) → eqb (ownFault a vs v) 0 ≡ true → eqb (ownFault b vs v) 0 ≡ true
   unfolding ownFault
   own-kept v h =
-      let m : List ℕ → ℕ → Bool = λ rs p. partMaps rs p vs (variablePart v p) in
+      let m : List ℕ → ℕ → Bool = λ rs p. partMaps rs p (variablePartIn vs (variablePart v p)) in
       let was = own-maps a vs v h in
       let is : (m b 0 && m b 1) ≡ true = rw (maps-kept 0 (variablePart v 0) (omega arith) (and-left (m a 0) (m a 1) was), maps-kept 1 (variablePart v 1) (omega arith) (and-right (m a 0) (m a 1) was)) in
       ap (λ (c : Bool). eqb (cond c (cond (typeFits vs v) (cond (volatileFits vs v) 0 13) 12) 11) 0) (is ∙ sym was) ∙ h

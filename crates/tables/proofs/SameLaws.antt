@@ -9,10 +9,11 @@ use lib.Dec.{eqb, leb}
 use lib.ListN.{getD, length}
 use borrow.Author.Tests.{leb-true}
 use Rattle.tables.specs.Every.{every, zeros}
-use Rattle.tables.specs.Marks.{joined, meets, distinct}
-use Rattle.tables.specs.Tables.{parameterAt, rangeCount, rangeAt, present, registerAt, registerPart, variableAt, variablePart, kindOf, widthOf, volatileOf, triggerOf, pieceCount, pieceAt, pieceRegister, pieceBits, bitsOf, registersOf}
-use Rattle.tables.specs.Rules.{rangeFits, rangesFit, parameterFault, parameterShape, placed, placeTaken, registerFault, registerPartShape, registerShape, pieceFits, partMaps, widthFits, typeFits, volatileFits, ownFault, variablePartShape, variableShape, mappedBefore, triggerShared}
-use Rattle.tables.specs.Sound.{variableFault, parameterGood, registerGood, variableGood}
+use Rattle.tables.specs.Marks.{distinct, joined, meets}
+use Rattle.tables.specs.Tables.{bitsOf, kindOf, mentionedBy, parameterAt, pieceAt, pieceBits, pieceIn, rangeAt, rangeCount, rangeIn, registerAt, registerPart, registerPartIn, variableAt, variablePart, variablePartIn, volatileOf, widthOf}
+use Rattle.tables.specs.Words.{pieceCount, pieceRegister, present, triggerOf}
+use Rattle.tables.specs.Rules.{mappedBefore, ownFault, parameterFault, parameterShape, partMaps, pieceFits, placeTaken, placed, rangeFits, rangesFit, registerFault, registerPartShape, registerShape, triggerShared, typeFits, variableFault, variablePartShape, variableShape, volatileFits, widthFits}
+use Rattle.tables.specs.Sound.{parameterGood, registerGood, variableGood}
 use Rattle.tables.proofs.Laws.{and-left, and-right, every-same, some-same}
 use Rattle.tables.proofs.ZeroLaws.{zeros-every, zeros-at}
 
@@ -50,7 +51,7 @@ module _ (a b : List ℕ) (i : ℕ) (same : Alike (parameterAt (suc i)) a b) whe
   ranges-same : rangeCount b i ≤ 16 → rangesFit a i ≡ rangesFit b i
   unfolding rangesFit
   ranges-same few =
-      ap (λ (n : ℕ). every n (λ k. rangeFits a (rangeAt i k))) (word-i 3 (omega arith))
+      ap (λ (n : ℕ). every n (λ k. rangeFits (rangeIn a (rangeAt i k)))) (word-i 3 (omega arith))
       ∙ every-same (rangeCount b i) _ _ (λ k l. rw (same (rangeAt i k) (omega arith) (omega arith), same (rangeAt i k + 1) (omega arith) (omega arith)))
 
   pub parameter-fault-same : parameterShape b i ≡ true → parameterFault a i ≡ parameterFault b i
@@ -91,7 +92,7 @@ module _ (ps a b : List ℕ) (i : ℕ) (same : Alike (registerAt (suc i)) a b) w
   register-shape-same =
       rw (part-shape-same 0 (omega arith), part-shape-same 1 (omega arith), part-present i 0 (omega arith) (omega arith), part-present i 1 (omega arith) (omega arith))
 
-  placed-same : (p : ℕ) → p < 2 → placed ps a (registerPart i p) ≡ placed ps b (registerPart i p)
+  placed-same : (p : ℕ) → p < 2 → placed ps (registerPartIn a (registerPart i p)) ≡ placed ps (registerPartIn b (registerPart i p))
   unfolding placed
   placed-same p h =
       rw (part-present i p (omega arith) h, part-word i p 1 (omega arith) h (omega arith), part-word i p 2 (omega arith) h (omega arith))
@@ -195,19 +196,19 @@ module _ (a b : List ℕ) (v : ℕ) (same : Alike (variableAt (suc v)) a b) wher
 
     pub part-bits-same : bitsOf a p u ≡ bitsOf b p u
     part-bits-same =
-        ap (λ (n : ℕ). joined (λ k. pieceBits a (pieceAt at k)) n) (own-word u p 2 l h (omega arith))
+        ap (λ (n : ℕ). joined (λ k. pieceBits (pieceIn a (pieceAt at k))) n) (own-word u p 2 l h (omega arith))
         ∙ joined-same _ _ (pieceCount b at) (λ n m.
         rw (piece-register u p n l h (omega arith), piece-word u p n 1 l h (omega arith) (omega arith), piece-word u p n 2 l h (omega arith) (omega arith)))
 
-    pub part-registers-same : registersOf a p u ≡ registersOf b p u
+    pub part-registers-same : mentionedBy a p u ≡ mentionedBy b p u
     part-registers-same =
         ap (λ (n : ℕ). joined (λ k. pieceRegister a (pieceAt at k) ∷ []) n) (own-word u p 2 l h (omega arith))
         ∙ joined-same _ _ (pieceCount b at) (λ n m. ap (λ (r : ℕ). r ∷ []) (piece-register u p n l h (omega arith)))
 
-    part-maps-same : (rs : List ℕ) → partMaps rs p a at ≡ partMaps rs p b at
+    part-maps-same : (rs : List ℕ) → partMaps rs p (variablePartIn a at) ≡ partMaps rs p (variablePartIn b at)
     unfolding partMaps pieceFits
     part-maps-same rs =
-        let pieces : ℕ → List ℕ → Bool = λ n t. every n (λ k. pieceFits rs p t (pieceAt at k)) in
+        let pieces : ℕ → List ℕ → Bool = λ n t. every n (λ k. pieceFits rs p (pieceIn t (pieceAt at k))) in
         ap₂ (λ (f : Bool) (bits : List ℕ). f && distinct bits && leb (length bits) 32)
         (ap (λ (n : ℕ). pieces n a) (own-word u p 2 l h (omega arith))
         ∙ every-same (pieceCount b at) _ _ (λ n m.
@@ -218,7 +219,7 @@ module _ (a b : List ℕ) (v : ℕ) (same : Alike (variableAt (suc v)) a b) wher
     few-at : (u p : ℕ) → u ≤ v → p < 2 → pieceCount b (variablePart u p) ≤ 8
     few-at u p l h = shape-few b u p h (shapes u l)
 
-    width-same : (width p : ℕ) → p < 2 → widthFits a width (variablePart v p) ≡ widthFits b width (variablePart v p)
+    width-same : (width p : ℕ) → p < 2 → widthFits width (variablePartIn a (variablePart v p)) ≡ widthFits width (variablePartIn b (variablePart v p))
     unfolding widthFits
     width-same width p h = rw (own-present v p (omega arith) h, part-bits-same v p (omega arith) h (few-at v p (omega arith) h))
 
