@@ -32,7 +32,7 @@ once-apart (s ∷ l) zero (suc k) once hi hk e = once .0 (subst (λ (q : ℕ). A
 once-apart (s ∷ l) (suc i) (suc k) once hi hk e = once-apart l i k (once .1) (le-of-suc-le-suc hi) (le-of-suc-le-suc hk) e
 
 -- each piece adds at most one
-few-registers : (vs : List ℕ) (part : Wired.Part) (n : ℕ) → length (O.registersTo vs part n) ≤ n
+few-registers : (vs : List ℕ) (part : Wired.BitList) (n : ℕ) → length (O.registersTo vs part n) ≤ n
 unfolding O.registersTo
 few-registers vs part zero = omega arith
 few-registers vs part (suc n) = go (O.isMentioned vs part (pieceOf vs part n .register) n) (few-registers vs part n)
