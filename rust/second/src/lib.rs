@@ -29,4 +29,4 @@ pub use syntax::{DEPTH, NAME_BYTES, PARAMETERS, PIECES, RANGES, REGISTERS, VARIA
 pub use tables::{
     describe, load_into, lookup, tables, Loaded, PARAMETER_WORDS, REGISTER_WORDS, VARIABLE_WORDS,
 };
-pub use token::{scan, Lexeme, Sign, Token, Word, RESERVED};
+pub use token::{scan, token_line, Lexeme, Sign, Token, Word, RESERVED};

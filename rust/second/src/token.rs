@@ -151,6 +151,27 @@ pub fn scan(text: &[u8], from: usize) -> Result<Lexeme, usize> {
     })
 }
 
+/// The tokens of a text up to the end, or to what is none: its kind and bytes for each.
+pub fn token_line(text: &[u8]) -> String {
+    let mut line = String::from("tokens");
+    let mut at = 0;
+    loop {
+        let Lexeme { token, place, end } = match scan(text, at) {
+            Ok(lexeme) => lexeme,
+            Err(place) => return line + &format!(" bad {place} end {}", text.len()),
+        };
+        at = end;
+        line += &match token {
+            Token::Name => format!(" name {place}..{end}"),
+            Token::Word(_) => format!(" word {place}..{end}"),
+            Token::Number(value) => format!(" number {place}..{end}={value}"),
+            Token::Bits => format!(" bits {place}..{end}"),
+            Token::Sign(_) => format!(" sign {place}..{end}"),
+            Token::End => return line + &format!(" end {place}"),
+        };
+    }
+}
+
 /// How many bytes at the front of `rest` are of the kind asked for.
 fn count(rest: &[u8], kind: impl Fn(u8) -> bool) -> usize {
     rest.iter().position(|&b| !kind(b)).unwrap_or(rest.len())

@@ -3,7 +3,7 @@
 use std::fs;
 use std::path::Path;
 
-use second::{load, replay, stored};
+use second::{load, outline, replay, scan, stored, Outline, Token, RESERVED};
 
 #[test]
 fn the_papers_answers() {
@@ -25,15 +25,15 @@ fn the_scripts_answers() {
     }
 }
 
-/// `make_cases` would write the very files that are stored, and there are no others.
+/// `make_cases` would write the very files that are stored, and `cases/` holds no others.
 #[test]
 fn the_files_are_those_of_the_lists() {
-    let home = Path::new(env!("CARGO_MANIFEST_DIR")).join("cases");
+    let root = Path::new(env!("CARGO_MANIFEST_DIR")).join("../..");
     let files = stored::files().unwrap();
-    for (name, bytes) in &files {
+    for (path, bytes) in &files {
         assert!(
-            fs::read(home.join(name)).unwrap() == *bytes,
-            "{name} is stale: run make_cases"
+            fs::read(root.join(path)).unwrap() == *bytes,
+            "{path} is stale: run make_cases"
         );
     }
     let count = |folder: &Path| {
@@ -42,7 +42,44 @@ fn the_files_are_those_of_the_lists() {
             .filter(|entry| entry.as_ref().unwrap().path().is_file())
             .count()
     };
-    assert_eq!(count(&home) + count(&home.join("scripts")), files.len());
+    let here = "rust/second/cases/";
+    let home = root.join(here);
+    let listed = files.iter().filter(|(path, _)| path.starts_with(here));
+    assert_eq!(count(&home) + count(&home.join("scripts")), listed.count());
+}
+
+/// The texts that are shown token by token have every reserved word, every sign, every kind of
+/// token, and refusals 3, 4 and 5; and they are few enough for one input of the proved program.
+#[test]
+fn every_token_is_shown() {
+    let mut words = Vec::new();
+    let mut signs = Vec::new();
+    let (mut names, mut numbers, mut bits) = (0, 0, 0);
+    let mut refused = [0; 6];
+    for text in stored::short_texts() {
+        let mut at = 0;
+        while let Ok(lexeme) = scan(&text, at) {
+            at = lexeme.end;
+            match lexeme.token {
+                Token::Name => names += 1,
+                Token::Word(word) if !words.contains(&word) => words.push(word),
+                Token::Sign(sign) if !signs.contains(&sign) => signs.push(sign),
+                Token::Word(_) | Token::Sign(_) => {}
+                Token::Number(_) => numbers += 1,
+                Token::Bits => bits += 1,
+                Token::End => break,
+            }
+        }
+        if let Outline::Refused(refusal) = outline(&text) {
+            refused[usize::from(refusal.number)] += 1;
+        }
+    }
+    assert_eq!((words.len(), signs.len()), (RESERVED.len(), 30));
+    assert!(names > 0 && numbers > 0 && bits > 0);
+    assert!(refused[3] > 0 && refused[4] > 0 && refused[5] > 0);
+    let sizes = stored::files().unwrap();
+    let input = sizes.iter().find(|(path, _)| path == "crates/tokens/stdin");
+    assert!(input.unwrap().1.len() < 200_000);
 }
 
 /// Every refusal of loading stands among the stored verdicts.

@@ -1,4 +1,5 @@
-//! Writes the stored cases: the framed texts, their verdicts, their names, and the scripts.
+//! Writes the stored cases into the repository: what the proved programs read and must write, and
+//! what lies in `cases/`.
 //!
 //! A case that a paper settles must get the answer that the paper gives, or nothing is written.
 
@@ -7,14 +8,14 @@ use std::fs;
 use std::path::{Path, PathBuf};
 
 fn main() -> Result<(), Box<dyn Error>> {
-    let home = Path::new(env!("CARGO_MANIFEST_DIR")).join("cases");
-    let home = std::env::args_os().nth(1).map_or(home, PathBuf::from);
+    let root = Path::new(env!("CARGO_MANIFEST_DIR")).join("../..");
+    let root = std::env::args_os().nth(1).map_or(root, PathBuf::from);
     let files = second::stored::files()?;
-    for (name, bytes) in &files {
-        let path = home.join(name);
-        fs::create_dir_all(path.parent().unwrap_or(&home))?;
+    for (path, bytes) in &files {
+        let path = root.join(path);
+        fs::create_dir_all(path.parent().unwrap_or(&root))?;
         fs::write(path, bytes)?;
     }
-    println!("{} files in {}", files.len(), home.display());
+    println!("{} files in {}", files.len(), root.display());
     Ok(())
 }

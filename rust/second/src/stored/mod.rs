@@ -12,7 +12,10 @@ mod tokens;
 
 pub use scripts::{scripts, Script};
 
-use crate::{frame, load, replay};
+use crate::{frame, load, outline, replay, token_line};
+
+/// Where the files lie that no proved program reads.
+const HOME: &str = "rust/second/cases";
 
 /// Text A of document 01.
 pub const A: &str = "device d(base:bit[8] port){register r=base:bit[8];variable v=r:int(8);}";
@@ -27,19 +30,60 @@ pub struct Case {
 
 /// All stored texts, in the order of document 01.
 pub fn texts() -> Vec<Case> {
-    let mut list = List::default();
-    marked(&mut list);
-    tokens::cases(&mut list);
-    grammar::cases(&mut list);
-    sizes::cases(&mut list);
+    let mut list = reading();
     order::cases(&mut list);
     rules::cases(&mut list);
     list.0
 }
 
-/// Every stored file by its name: what `make_cases` writes. `Err` names the first case whose
-/// answer is not the one that the papers give.
-pub fn files() -> Result<Vec<(String, Vec<u8>)>, String> {
+/// The stored texts that are about reading: tokens, grammar and sizes.
+fn reading() -> List {
+    let mut list = List::default();
+    marked(&mut list);
+    tokens::cases(&mut list);
+    grammar::cases(&mut list);
+    sizes::cases(&mut list);
+    list
+}
+
+/// Those of them that are short enough to look at token by token.
+pub fn short_texts() -> Vec<Vec<u8>> {
+    reading()
+        .0
+        .into_iter()
+        .map(|case| case.text)
+        .filter(|text| text.len() <= 300)
+        .collect()
+}
+
+/// A stored file: its path in the repository, and its bytes.
+pub type StoredFile = (String, Vec<u8>);
+
+/// Every stored file: what `make_cases` writes. `Err` names the first case whose answer is not the
+/// one that the papers give.
+pub fn files() -> Result<Vec<StoredFile>, String> {
+    let mut files = token_files();
+    files.extend(text_files()?);
+    files.extend(script_files()?);
+    Ok(files)
+}
+
+/// Input and output of the proved program `tokens`.
+fn token_files() -> Vec<StoredFile> {
+    let mut framed = Vec::new();
+    let mut lines = String::new();
+    for text in short_texts() {
+        frame::write(&text, &mut framed);
+        lines += &format!("{}\n{}\n", token_line(&text), outline(&text));
+    }
+    vec![
+        ("crates/tokens/stdin".to_string(), framed),
+        ("crates/tokens/stdout".to_string(), lines.into_bytes()),
+    ]
+}
+
+/// The stored texts, their verdicts, and their names.
+fn text_files() -> Result<Vec<StoredFile>, String> {
     let mut framed = Vec::new();
     let mut verdicts = String::new();
     let mut names = String::new();
@@ -52,11 +96,16 @@ pub fn files() -> Result<Vec<(String, Vec<u8>)>, String> {
         verdicts += &format!("{verdict}\n");
         names += &format!("{}\n", case.name);
     }
-    let mut files = vec![
-        ("texts.framed".to_string(), framed),
-        ("texts.verdicts".to_string(), verdicts.into_bytes()),
-        ("texts.names".to_string(), names.into_bytes()),
-    ];
+    Ok(vec![
+        (format!("{HOME}/texts.framed"), framed),
+        (format!("{HOME}/texts.verdicts"), verdicts.into_bytes()),
+        (format!("{HOME}/texts.names"), names.into_bytes()),
+    ])
+}
+
+/// The scripts, and what they write.
+fn script_files() -> Result<Vec<StoredFile>, String> {
+    let mut files = Vec::new();
     for script in scripts() {
         let mut input = Vec::new();
         frame::write(script.text.as_bytes(), &mut input);
@@ -69,9 +118,9 @@ pub fn files() -> Result<Vec<(String, Vec<u8>)>, String> {
             }
         }
         let written: String = written.iter().map(|line| format!("{line}\n")).collect();
-        files.push((format!("scripts/{}.script", script.name), input));
+        files.push((format!("{HOME}/scripts/{}.script", script.name), input));
         files.push((
-            format!("scripts/{}.answers", script.name),
+            format!("{HOME}/scripts/{}.answers", script.name),
             written.into_bytes(),
         ));
     }
