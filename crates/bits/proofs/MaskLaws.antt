@@ -45,7 +45,7 @@ bit-and (suc b) m n =
     ∙ bit-and b (m / 2) (n / 2)
     ∙ sym (ap₂ _&&_ (bit-half b m) (bit-half b n))
 
-bit-none : (b : ℕ) → bit b 0 ≡ false
+pub bit-none : (b : ℕ) → bit b 0 ≡ false
 unfolding bit
 bit-none b = ap (λ (k : ℕ). eqb (k % 2) 1) (zero-div (2 ^ b))
 

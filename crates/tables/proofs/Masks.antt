@@ -1,0 +1,86 @@
+-- The masks of sound tables: each element is one of `.`, `0`, `1` and `*`. A dot is not fixed, and what is `1` is fixed, so it is no dot.
+use Prim.Native.Nat.{ℕ, _<_}
+use native.Mathlib.Omega.{arith}
+use mathlib.Core.Path.{_≡_, refl, sym, ap, _∙_}
+use mathlib.Core.Bool.{Bool, true, false, _&&_, _||_, cond, true≢false, false≢true}
+use mathlib.Core.List.{List}
+use lib.Bits.{bitAnd}
+use lib.Dec.{eqb, leb, ltb}
+use borrow.Author.Tests.{eqb-true}
+use Rattle.bits.specs.Bits.{bit}
+use Rattle.bits.proofs.MaskLaws.{bits-apart, bits-inside, bit-none}
+use Rattle.tables.specs.Every.{every, zeros}
+use Rattle.tables.specs.Tables.{countOf, RegisterPart, registerPartIn, registerPartOf, registerPart}
+use Rattle.tables.specs.Rules.{masksFit, registerPartShape, registerShape, parameterShape, variableShape}
+use Rattle.tables.specs.Sound as S
+use Rattle.tables.specs.Sound.{tablesFit, restZero, shapesFit, rulesKept}
+use Rattle.tables.specs.View.{Tables, Part, reading, writing, partNo, sound, registerCount, isDot, isOne}
+use Rattle.tables.proofs.Laws.{and-left, and-right, every-at}
+use Rattle.tables.proofs.ZeroLaws.{zeros-at}
+
+-- the masks of a part of a fitting shape, there or not
+pub record Elements (part : RegisterPart) : Type 0 where
+  pub dot-not-fixed : (b : ℕ) → bit b (part .dots) ≡ true → bit b (part .fixed) ≡ false
+  pub one-is-fixed : (b : ℕ) → bit b (part .ones) ≡ true → bit b (part .fixed) ≡ true
+
+by-masks : (part : RegisterPart) → masksFit part ≡ true → Elements part
+by-masks part h =
+    let small = leb (part .dots) 255 && leb (part .fixed) 255 in
+    let apart = eqb (bitAnd (part .dots) (part .fixed)) 0 in
+    let inside = eqb (bitAnd (part .ones) (part .fixed)) (part .ones) in
+    record {
+      dot-not-fixed = bits-apart (part .dots) (part .fixed) (eqb-true _ 0 (and-right small apart (and-left (small && apart) inside h)));
+      one-is-fixed = bits-inside (part .ones) (part .fixed) (eqb-true _ (part .ones) (and-right (small && apart) inside h));
+    }
+
+no-bit : (b n : ℕ) → n ≡ 0 → bit b n ≡ true → ⊥
+no-bit b n e h = false≢true (sym (bit-none b) ∙ ap (bit b) (sym e) ∙ h)
+
+pub part-elements : (ps rs : List ℕ) (at : ℕ) → registerPartShape ps rs at ≡ true → Elements (registerPartIn rs at)
+unfolding registerPartShape
+part-elements ps rs at h = go (registerPartIn rs at .present) h
+  where
+    go : (b : Bool) → cond b (ltb (registerPartIn rs at .parameter) (countOf ps) && masksFit (registerPartIn rs at)) (zeros rs at 6) ≡ true
+        → Elements (registerPartIn rs at)
+    go true e = by-masks (registerPartIn rs at) (and-right (ltb (registerPartIn rs at .parameter) (countOf ps)) _ e)
+    go false e =
+        record {
+          dot-not-fixed = λ b d. absurd (no-bit b _ (zeros-at rs at 6 e 3 (omega arith)) d);
+          one-is-fixed = λ b d. absurd (no-bit b _ (zeros-at rs at 6 e 5 (omega arith)) d);
+        }
+
+module _ (t : Tables) (ok : sound t ≡ true) where
+  register-shape : (r : ℕ) → r < registerCount t → registerShape (t .parameters) (t .registers) r ≡ true
+  unfolding sound S.sound shapesFit registerCount
+  register-shape r l =
+      let ps = t .parameters in
+      let rs = t .registers in
+      let vs = t .variables in
+      let a = every (countOf ps) (parameterShape ps) in
+      let b = every (countOf rs) (registerShape ps rs) in
+      let c = every (countOf vs) (variableShape vs) in
+      let shapes = and-right (restZero ps rs vs) _ (and-left (restZero ps rs vs && shapesFit ps rs vs) (rulesKept ps rs vs) (and-right (tablesFit ps rs vs) _ ok)) in
+      every-at (countOf rs) (registerShape ps rs) (and-right a b (and-left (a && b) c shapes)) r l
+
+  pub elements : (part : Part) (r : ℕ) → r < registerCount t → Elements (registerPartOf (t .registers) (partNo part) r)
+  unfolding registerShape
+  elements part r l = pick part
+    where
+      shape : ℕ → Bool
+      shape p = registerPartShape (t .parameters) (t .registers) (registerPart r p)
+
+      both : (shape 0 && shape 1) ≡ true
+      both = and-left (shape 0 && shape 1) (registerPartOf (t .registers) 0 r .present || registerPartOf (t .registers) 1 r .present) (register-shape r l)
+
+      pick : (part : Part) → Elements (registerPartOf (t .registers) (partNo part) r)
+      pick reading = part-elements (t .parameters) (t .registers) (registerPart r 0) (and-left (shape 0) (shape 1) both)
+      pick writing = part-elements (t .parameters) (t .registers) (registerPart r 1) (and-right (shape 0) (shape 1) both)
+
+  -- a `1` is no dot: the byte written takes each of its bits from one place
+  pub one-no-dot : (part : Part) (r b : ℕ) → r < registerCount t → isOne t part r b ≡ true → isDot t part r b ≡ false
+  unfolding isOne isDot
+  one-no-dot part r b l one = go (bit b (registerPartOf (t .registers) (partNo part) r .dots)) refl
+    where
+      go : (d : Bool) → bit b (registerPartOf (t .registers) (partNo part) r .dots) ≡ d → d ≡ false
+      go true e = absurd (true≢false (sym (elements part r l .one-is-fixed b one) ∙ elements part r l .dot-not-fixed b e))
+      go false e = refl
