@@ -1,11 +1,11 @@
 -- What the definitions over the bytes to come say at a place of a text. Assumes nothing.
-use mathlib.Core.List.{List, [], _∷_}
-use mathlib.Core.Path.{_≡_, refl, sym, ap, _∙_}
+use mathlib.Core.List.{List}
+use mathlib.Core.Path.{_≡_, sym, ap, _∙_}
 use Prim.Native.Nat.{ℕ, _+_, _-_, _≤_, _<_, min}
 use native.Mathlib.Omega.{arith}
 use lib.ListN.{length, getD, take, drop, drop-of-length-le, length-drop}
 use lib.Seq.{slice, drop-drop, getD-drop}
-use Rattle.token.specs.Bytes.{runFrom, runAt}
+use Rattle.token.specs.Bytes.{runAt}
 use Rattle.token.specs.Word.{isNameByte, wordOf}
 use Rattle.token.specs.Scan.{isBit, nameToken, nameFrom, bitsToken, bitsFrom, tokenBy, tokenFrom}
 use Rattle.token.specs.declared.Token.the-variants.{End}

@@ -5,14 +5,13 @@ use mathlib.Core.Path.{_≡_, refl, sym, ap, _∙_}
 use Prim.Native.Nat.{ℕ, zero, suc, _+_, _-_, _≤_, _<_, min}
 use native.Mathlib.Nat.{add-zero}
 use native.Mathlib.Omega.{arith}
-use lib.ListN.{length, getD, drop, length-drop, drop-of-length-le}
+use lib.ListN.{length, getD, drop, length-drop}
 use lib.Seq.{drop-drop, drop-nil, getD-drop}
-use Rattle.token.specs.Gap.{gap, gapFrom}
+use Rattle.token.specs.Gap.{gapFrom}
 use Rattle.token.specs.Scan.{tokenFrom, scanFrom, scanAt}
 use Rattle.token.specs.Fair.{goesOn}
 use Rattle.token.specs.Tokens.{listed, tokensFrom, tokensAt, tokensOf, walked}
 use Rattle.token.specs.declared.Token.{Token}
-use Rattle.token.specs.declared.Token.the-variants.{End}
 use Rattle.token.specs.declared.Scanned.{Scanned}
 use Rattle.token.proofs.Bools.{either}
 use Rattle.token.proofs.Laws.{scan-is, passes}
