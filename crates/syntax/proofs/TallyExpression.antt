@@ -19,7 +19,12 @@ use Rattle.expression.specs.declared.Outcome.{Outcome}
 use Rattle.expression.specs.declared.Outcome.the-variants.{Read, Refused as Stopped}
 use Rattle.expression.specs.declared.Opening.{Opening}
 use Rattle.expression.specs.declared.Opening.the-variants.{Literal, Minus, Paren, Nothing}
-use Rattle.expression.specs.Expression.{levelOf, openingOf, operandAt, chainAt, restAt, expressionAt}
+use Rattle.expression.specs.Expression.{operatorOf, jointOf, openingOf, operandAt, chainAt, restAt, expressionAt}
+use Rattle.expression.specs.declared.Operator.{Operator}
+use Rattle.expression.specs.declared.Operator.the-variants.{Sum, Difference, Product, Quotient, Remainder}
+use Rattle.expression.specs.declared.Joint.{Joint}
+use Rattle.expression.specs.declared.Joint.the-variants.{By, Ends}
+use Rattle.expression.proofs.Joints.{joint-is}
 use Rattle.expression.proofs.Laws.{operand-literal, operand-nothing, operand-deep, operand-minus, operand-paren, chain-operand, chain-first, rest-end, rest-refusal, rest-more, rest-ahead}
 use Rattle.syntax.specs.declared.reader.Step.{Step}
 use Rattle.syntax.specs.declared.reader.Step.the-variants.{At, Refused}
@@ -27,6 +32,10 @@ use Rattle.syntax.specs.Offset.{stepIn, expressionAfter}
 use Rattle.syntax.specs.Sizes.{Encloser, parenthesis, minus, register, operand, ended, closed, asksOperand, onward, passesAt, Tally, tallied, longName, tooMuch}
 use Rattle.syntax.proofs.ExpressionFollows.{Matches, opening-kind, refused-alike, negated-step, closed-step}
 use Rattle.syntax.proofs.Tally.{Agrees, refused-agrees, agrees-unexpected, agrees-five, agrees-kind, agrees-tok, goes, or-true}
+
+-- an operator is something
+apart : {operator : Operator} → Ends ≡ By operator → ⊥
+apart e = let z : _≡_ {A = ℕ} 0 1 = cc in omega arith
 
 module _ (text : List ℕ) (w : Option ℕ) (registers variables : ℕ) where
   -- the count in an offset, behind an operand and before one
@@ -38,11 +47,11 @@ module _ (text : List ℕ) (w : Option ℕ) (registers variables : ℕ) where
 
   -- ---- operators
 
-  operator-passes : (o : List Encloser) (at : ℕ) → (levelOf (signOf (scanAt text at .token)) ≡ 0 → ⊥) → Agrees text w (behind o) (At at) → Agrees text w (before o) (At (scanAt text at .next))
-  unfolding levelOf tallied tooMuch passesAt onward asksOperand
+  operator-passes : (o : List Encloser) (at : ℕ) → (operatorOf (signOf (scanAt text at .token)) ≡ Ends → ⊥) → Agrees text w (behind o) (At at) → Agrees text w (before o) (At (scanAt text at .next))
+  unfolding operatorOf tallied tooMuch passesAt onward asksOperand
   operator-passes o at some a = by (scanAt text at .token) refl some
     where
-      by : (t : Token) → scanAt text at .token ≡ t → (levelOf (signOf t) ≡ 0 → ⊥) → Agrees text w (before o) (At (scanAt text at .next))
+      by : (t : Token) → scanAt text at .token ≡ t → (operatorOf (signOf t) ≡ Ends → ⊥) → Agrees text w (before o) (At (scanAt text at .next))
       by (Name p n) e some = absurd (some refl)
       by (Word p n) e some = absurd (some refl)
       by (Number p n) e some = absurd (some refl)
@@ -55,7 +64,7 @@ module _ (text : List ℕ) (w : Option ℕ) (registers variables : ℕ) where
           is k h = ap kindOf e ∙ ap (λ (n : ℕ). 256 + n) (eqb-true s k h)
 
           sign : (a : Bool) → eqb s 43 ≡ a → (b : Bool) → eqb s 45 ≡ b → (c : Bool) → eqb s 42 ≡ c → (d : Bool) → eqb s 47 ≡ d → (f : Bool) → eqb s 37 ≡ f
-              → (_≡_ {A = ℕ} (pick a 2 (pick b 2 (pick c 1 (pick d 1 (pick f 1 0))))) 0 → ⊥) → Agrees text w (before o) (At (scanAt text at .next))
+              → (pick a (By Sum) (pick b (By Difference) (pick c (By Product) (pick d (By Quotient) (pick f (By Remainder) Ends)))) ≡ Ends → ⊥) → Agrees text w (before o) (At (scanAt text at .next))
           sign true ea b eb c ec d ed f ef some = agrees-kind text w 299 (behind o) refl refl refl at (is 43 ea) a
           sign false ea true eb c ec d ed f ef some = agrees-kind text w 301 (behind o) refl refl refl at (is 45 eb) a
           sign false ea false eb true ec d ed f ef some = agrees-kind text w 298 (behind o) refl refl refl at (is 42 ec) a
@@ -75,18 +84,18 @@ module _ (text : List ℕ) (w : Option ℕ) (registers variables : ℕ) where
 
     turn : (x : Worth) (at : ℕ) → ((y : Worth) (end : ℕ) → at < end → at < length text → Rest y end) → Rest x at
     unfolding stepIn
-    turn x at rest a = by (eqb (levelOf (signOf (scanAt text at .token))) level) refl (chainAt text depth (level - 1) (scanAt text at .next)) refl
+    turn x at rest a = by (jointOf level (signOf (scanAt text at .token))) refl (chainAt text depth (level - 1) (scanAt text at .next)) refl
       where
-        part : levelOf (signOf (scanAt text at .token)) ≡ level → Agrees text w (behind o) (stepIn (chainAt text depth (level - 1) (scanAt text at .next)))
-        part e = parts (scanAt text at .next) (operator-passes o at (λ z. some (sym e ∙ z)) a)
+        part : {operator : Operator} → jointOf level (signOf (scanAt text at .token)) ≡ By operator → Agrees text w (behind o) (stepIn (chainAt text depth (level - 1) (scanAt text at .next)))
+        part e = parts (scanAt text at .next) (operator-passes o at (λ z. apart (sym z ∙ joint-is level (signOf (scanAt text at .token)) e)) a)
 
-        by : (b : Bool) → eqb (levelOf (signOf (scanAt text at .token))) level ≡ b → (p : Outcome) → chainAt text depth (level - 1) (scanAt text at .next) ≡ p → Agrees text w (behind o) (stepIn (restAt text depth level x at))
-        by false e p q = rw (rest-end text depth level some x at (eqb-false _ level e)) a
-        by true e (Stopped number place) q =
-            rw (rest-refusal text depth level some x at (eqb-true _ level e) q) (subst (λ (t : Outcome). Agrees text w (behind o) (stepIn t)) q (part (eqb-true _ level e)))
-        by true e (Read right end) q =
-            let ahead = rest-ahead text depth level some x at (eqb-true _ level e) q in
-            rw (rest-more text depth level some x at (eqb-true _ level e) q) (rest _ end (ahead .0) (ahead .1) (subst (λ (t : Outcome). Agrees text w (behind o) (stepIn t)) q (part (eqb-true _ level e))))
+        by : (j : Joint) → jointOf level (signOf (scanAt text at .token)) ≡ j → (p : Outcome) → chainAt text depth (level - 1) (scanAt text at .next) ≡ p → Agrees text w (behind o) (stepIn (restAt text depth level x at))
+        by Ends e p q = rw (rest-end text depth level x at e) a
+        by (By operator) e (Stopped number place) q =
+            rw (rest-refusal text depth level x at e q) (subst (λ (t : Outcome). Agrees text w (behind o) (stepIn t)) q (part e))
+        by (By operator) e (Read right end) q =
+            let ahead = rest-ahead text depth level x at e q in
+            rw (rest-more text depth level x at e q) (rest _ end (ahead .0) (ahead .1) (subst (λ (t : Outcome). Agrees text w (behind o) (stepIn t)) q (part e)))
 
     rest-agrees : (bound : ℕ) (x : Worth) (at : ℕ) → length text < at + bound → Rest x at
     rest-agrees zero x at h = turn x at (λ y end ahead inside. absurd (omega arith))
