@@ -24,32 +24,8 @@ use Rattle.board.specs.Demand.{Opening, worldAfter, writesOf, Work, Equa
 use Rattle.board.specs.Stops.{leftBy, listed, readBack, midWrite}
 use Rattle.board.proofs.Demand3.{demand-3}
 use Rattle.board.proofs.Stops.{power-lost}
+use Rattle.board.proofs.Passed.{passed, after-passed, opened-passed, world-passed}
 use Rattle.board.proofs.Scoring.{scoring, scoring-sound}
-
--- ── sound tables pass refusal 20 at every call: so a run is computed with that test passed ──
-
-abbrev passed : Tables → Bool
-passed t = true
-
-module _ (t : Tables) (ok : sound t ≡ true) where
-  step-passed : (call : Call) (w : World) → step sound t call w ≡ step passed t call w
-  unfolding unless
-  step-passed (BeginRead v) w = rw ok
-  step-passed (BeginWrite v z) w = rw ok
-  step-passed (Confirm any) w = rw ok
-  step-passed (Abandon performed) w = rw ok
-
-  after-passed : (calls : List Call) (w : World) → after sound t calls w ≡ after passed t calls w
-  unfolding after
-  after-passed [] w = refl
-  after-passed (call ∷ calls) w = after-passed calls (step sound t call w) ∙ ap (after passed t calls) (step-passed call w)
-
-  opened-passed : (power : List ℕ) (s : State) → opened sound t power s ≡ opened passed t power s
-  unfolding unless
-  opened-passed power s = rw ok
-
-  pub world-passed : {power : List ℕ} (o : Opening t power) (calls : List Call) → worldAfter o calls ≡ after passed t calls (opened passed t power (o .lent))
-  world-passed {power} o calls = after-passed calls (opened sound t power (o .lent)) ∙ ap (after passed t calls) (opened-passed power (o .lent))
 
 -- ── an opening ──
 

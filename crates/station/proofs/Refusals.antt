@@ -12,7 +12,7 @@ use Rattle.station.specs.declared.Operation.{Operation}
 use Rattle.station.specs.declared.Answer.the-variants.{Abandoned as Ended}
 use Rattle.station.specs.declared.Outcome as Code
 use Rattle.station.specs.Calls.{Idle, Reading, Writing, State, Outcome, Test, refused, unless, checked, readTests, writeTests, openingTests, confirmed, abandoned, readOn, writeOn, isLast, gather, registerAt, keeping, writeAccess, opening, beginRead, beginWrite, confirm, abandon}
-use Rattle.station.specs.Answers.{refusalOf, firstOf, endTests, Refuses}
+use Rattle.station.specs.Answers.{refusalOf, valuesOf, lowestOf, endTests, Refuses}
 use Rattle.station.specs.Promise.{Meets}
 
 -- ── an outcome behind tests ──
@@ -33,13 +33,13 @@ unless-cases P (test ∷ tests) s o at-refusal passed =
     go true e rest = at-refusal (test .1)
     go false e rest = rest e
 
-first-refuses : (tests : List Test) (s : State) (o : Outcome) → refusalOf (o .answer) ≡ none → refusalOf (unless tests s o .answer) ≡ firstOf tests
-unfolding unless firstOf
-first-refuses [] s o passes = passes
-first-refuses (test ∷ tests) s o passes = go (test .0) (first-refuses tests s o passes)
+lowest-refuses : (tests : List Test) (s : State) (o : Outcome) → refusalOf (o .answer) ≡ none → refusalOf (unless tests s o .answer) ≡ lowestOf tests
+unfolding unless lowestOf
+lowest-refuses [] s o passes = passes
+lowest-refuses (test ∷ tests) s o passes = go (test .0) (lowest-refuses tests s o passes)
   where
-    go : (b : Bool) → refusalOf (unless tests s o .answer) ≡ firstOf tests
-        → refusalOf (cond b (refused (test .1) s) (unless tests s o) .answer) ≡ cond b (some (test .1)) (firstOf tests)
+    go : (b : Bool) → refusalOf (unless tests s o .answer) ≡ lowestOf tests
+        → refusalOf (cond b (refused (test .1) s) (unless tests s o) .answer) ≡ cond b (some (test .1)) (lowestOf tests)
     go true rest = refl
     go false rest = rest
 
@@ -50,7 +50,7 @@ IsNone (some n) = ⊥
 refuses : (tests : List Test) (s : State) (o : Outcome) → refusalOf (o .answer) ≡ none → Refuses tests s (unless tests s o)
 refuses tests s o passes =
     record {
-      number = first-refuses tests s o passes;
+      number = lowest-refuses tests s o passes;
       leaves = λ n. unless-cases (λ u. refusalOf (u .answer) ≡ some n → u .state ≡ s) tests s o (λ m e. refl)
           (λ none-holds e. absurd (subst IsNone (sym passes ∙ e) tt));
     }
@@ -112,7 +112,7 @@ module _ (sound : Tables → Bool) (t : Tables) where
 -- ── a call that keeps its promise is refused so, and leaves the record, the marks and the operation as they were ──
 
 pub promised-number : {tests : List Test} {s : State} {o : Outcome} {kept marks : List ℕ} {given : Code.Outcome} → Refuses tests s o → Meets o kept marks given
-    → refusalOf (given .answer) ≡ firstOf tests
+    → refusalOf (given .answer) ≡ lowestOf tests
 promised-number r m = ap refusalOf (m .answer-is) ∙ r .number
 
 pub promised-leaves : {tests : List Test} {s : State} {o : Outcome} {kept marks : List ℕ} {given : Code.Outcome} → Refuses tests s o → Meets o kept marks given
@@ -123,3 +123,7 @@ promised-leaves r m n e =
       m .marks-is ∙ ap (λ (s : State). s .marks) same,
       m .operation-is ∙ ap (λ (s : State). s .operation) same,
     )
+
+-- and else gives the values that the specification's answer gives
+pub promised-values : {o : Outcome} {kept marks : List ℕ} {given : Code.Outcome} → Meets o kept marks given → valuesOf (given .answer) ≡ valuesOf (o .answer)
+promised-values m = ap valuesOf (m .answer-is)

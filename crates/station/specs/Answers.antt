@@ -1,4 +1,5 @@
 -- An answer in the words of document 01: the number that a refusal has there, and the values that the other answers give.
+-- proofs/Refusals.antt proves `Refuses` of the five calls, by the lists of tests in Calls.antt, and of the code that keeps its promise.
 -- Assumes nothing.
 use Prim.Native.Nat.{ℕ}
 use mathlib.Core.Path.{_≡_}
@@ -28,9 +29,9 @@ valuesOf (Done value accesses) = value ∷ pos accesses ∷ []
 valuesOf Ended = []
 
 -- "The lowest number wins": the number of the first test that holds, where they stand in order of number
-unfoldable pub firstOf : List Test → Option ℕ
-firstOf [] = none
-firstOf (test ∷ tests) = cond (test .0) (some (test .1)) (firstOf tests)
+unfoldable pub lowestOf : List Test → Option ℕ
+lowestOf [] = none
+lowestOf (test ∷ tests) = cond (test .0) (some (test .1)) (lowestOf tests)
 
 -- what a confirm or an abandon can be refused with: 20 to 22 and 24
 abbrev pub endTests : (Tables → Bool) → Tables → State → List Test
@@ -39,5 +40,5 @@ endTests sound t s = checked sound t s ((not (isInHand (s .operation)), 24) ∷ 
 -- a call refuses by these tests: with the lowest number whose test holds, and with none where no test holds; and "all leave every record, mark
 -- and buffer unchanged and offer no access"
 pub record Refuses (tests : List Test) (s : State) (o : Outcome) : Type 0 where
-  pub number : refusalOf (o .answer) ≡ firstOf tests
+  pub number : refusalOf (o .answer) ≡ lowestOf tests
   pub leaves : (n : ℕ) → refusalOf (o .answer) ≡ some n → o .state ≡ s

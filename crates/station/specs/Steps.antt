@@ -1,5 +1,6 @@
 -- Demand 2's step order: "Each read and write is exactly the accesses that the definition gives, in its order, and is called done at the last
 -- confirmation and never sooner." The definition is a plan, a list of accesses that is made when the operation begins.
+-- proofs/Stepping.antt proves `GoesByPlan` of both begins, from any state; proofs/ByteLaws.antt proves `ByteRight`.
 -- Assumes nothing.
 use Prim.Native.Nat.{ℕ, suc, _≤_, _<_, _^_}
 use mathlib.Core.Path.{_≡_}
