@@ -3,8 +3,8 @@
 -- Assumes nothing.
 use Prim.Native.Nat.{ℕ, suc}
 use mathlib.Core.Path.{_≡_, refl, ap}
-use mathlib.Core.Bool.{Bool, true, false, cond}
-use mathlib.Core.List.{List, [], _∷_}
+use mathlib.Core.Bool.{Bool, true, false}
+use mathlib.Core.List.{List, []}
 use mathlib.Core.Option.{Option}
 use lib.IntN.{ℤ}
 use Rattle.tables.specs.declared.Part.the-variants.{Read as reading, Write as writing}
@@ -12,7 +12,7 @@ use Rattle.tables.specs.View.{Tables}
 use Rattle.station.specs.declared.Access.{Access}
 use Rattle.station.specs.declared.Operation.{Operation}
 use Rattle.station.specs.declared.Operation.the-variants.{Idle, Reading, Writing}
-use Rattle.station.specs.Calls.{State, Outcome, Test, onOffer, refused, unless, checked, readTests, writeTests, confirmed, abandoned, readOn, writeOn, isLast, beginRead, beginWrite, confirm, abandon, gather, registerAt, keeping, writeAccess}
+use Rattle.station.specs.Calls.{State, Outcome, onOffer, checked, readTests, writeTests, confirmed, abandoned, readOn, writeOn, isLast, beginRead, beginWrite, confirm, abandon, gather, registerAt, keeping, writeAccess}
 use Rattle.station.proofs.Refusals.{unless-cases}
 use Rattle.board.specs.Board.{World, Call, BeginRead, BeginWrite, Confirm, Abandon, brought, standing, step}
 

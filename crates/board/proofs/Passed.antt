@@ -2,7 +2,7 @@
 -- Assumes nothing.
 use Prim.Native.Nat.{ℕ}
 use mathlib.Core.Path.{_≡_, refl, ap, _∙_}
-use mathlib.Core.Bool.{Bool, true, not}
+use mathlib.Core.Bool.{Bool, true}
 use mathlib.Core.List.{List, [], _∷_}
 use Rattle.tables.specs.View.{Tables, sound}
 use Rattle.station.specs.Calls.{State, unless}
@@ -31,4 +31,3 @@ module _ (t : Tables) (ok : sound t ≡ true) where
 
   pub world-passed : {power : List ℕ} (o : Opening t power) (calls : List Call) → worldAfter o calls ≡ after passed t calls (opened passed t power (o .lent))
   world-passed {power} o calls = after-passed calls (opened sound t power (o .lent)) ∙ ap (after passed t calls) (opened-passed power (o .lent))
-

@@ -1,10 +1,9 @@
 -- The scoring board (boards/scoring.devil) as tables of full size: refusal 20's own test accepts them.
 -- Assumes nothing.
-use Prim.Native.Nat.{ℕ, zero, suc, _-_, _*_, _<_}
 use mathlib.Core.Path.{_≡_, refl}
-use mathlib.Core.Bool.{Bool, true, false}
-use mathlib.Core.List.{List, [], _∷_, _++_}
-use lib.ListN.{length, replicate}
+use mathlib.Core.Bool.{true}
+use mathlib.Core.List.{_∷_, _++_}
+use lib.ListN.{replicate}
 use Rattle.bits.specs.Bits.{bit}
 use Rattle.tables.specs.Every.{every, some, zerosFront}
 use Rattle.tables.specs.Marks.{joined, downFrom, has, meets, distinct}

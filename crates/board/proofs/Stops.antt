@@ -5,8 +5,8 @@
 use Prim.Native.Nat.{ℕ, zero, suc, _^_, _<_, _≤_, suc-le-suc, zero-le}
 use mathlib.Core.Path.{_≡_, refl, sym, ap, _∙_, subst}
 use mathlib.Core.Logic.{_⊎_, inl, inr}
-use mathlib.Core.Bool.{Bool, true, false, cond, _&&_, true≢false}
-use mathlib.Core.List.{List, [], _∷_}
+use mathlib.Core.Bool.{Bool, true, false, cond, true≢false}
+use mathlib.Core.List.{List, []}
 use mathlib.Core.Option.{Option, none, some}
 use native.Mathlib.Nat.{le-of-suc-le-suc, not-suc-le-zero}
 use native.Mathlib.Omega.{arith}
@@ -23,20 +23,20 @@ use Rattle.station.specs.declared.Access.{Access}
 use Rattle.station.specs.declared.Operation.{Operation}
 use Rattle.station.specs.declared.Operation.the-variants.{Idle, Reading, Writing}
 use Rattle.station.specs.declared.Answer.the-variants.{Opened}
-use Rattle.station.specs.Calls.{State, unless, isLong, isAllowed, onOffer, opening, registerAt, keptOf, writtenByte, stepsOf}
-use Rattle.bits.proofs.BitLaws.{number-same, number-bits, number-lt, bit-number}
-use Rattle.station.proofs.Cases.{either, true-and, or-false, getD-among}
+use Rattle.station.specs.Calls.{State, unless, isLong, isAllowed, onOffer, opening, registerAt, keptOf, writtenByte}
+use Rattle.bits.proofs.BitLaws.{number-same, number-bits}
+use Rattle.station.proofs.Cases.{either, or-false, getD-among}
 use Rattle.station.proofs.ByteLaws.{byte-own}
 use Rattle.station.proofs.Registers.{same-size, same-place}
 use Rattle.station.proofs.Underway.{writing-allowed}
-use Rattle.board.specs.Board.{Cells, putAt, reached, isWriting, toBeSet, Event, Due, Gives, mustRead, bitsIn, Asked, Nothing, ToRead, ToWrite, World, Call, BeginRead, BeginWrite, Confirm, Abandon, perform, step, after}
+use Rattle.board.specs.Board.{Cells, putAt, reached, isWriting, toBeSet, Due, Gives, mustRead, bitsIn, Asked, ToWrite, World, Call, BeginRead, BeginWrite, Confirm, Abandon, perform, step, after}
 use Rattle.board.specs.Demand.{Opening, powerOn, worldAfter, dueAfter}
-use Rattle.board.specs.Stops.{lastGiven, isHalf, isBeingWritten, Settled, noneBegins, Spared, AtWork, leftBy, listed, readBack, Takes, midWrite, setSoFar, wroteOver, mixed, PowerLost}
+use Rattle.board.specs.Stops.{lastGiven, isBeingWritten, Settled, noneBegins, Spared, AtWork, leftBy, listed, readBack, midWrite, setSoFar, wroteOver, mixed, PowerLost}
 use Rattle.board.proofs.Ledger.{at}
 use Rattle.board.proofs.BoardLaws.{put-other}
 use Rattle.board.proofs.Moves.{isOpen}
-use Rattle.board.proofs.Invariant.{opensOf, byteAt}
-use Rattle.board.proofs.Steps.{Linked, InvW, stateOf, step-keeps, after-keeps, reach-at}
+use Rattle.board.proofs.Invariant.{opensOf}
+use Rattle.board.proofs.Steps.{Linked, InvW, step-keeps, after-keeps, reach-at}
 use Rattle.board.proofs.Onlooker.{half-is, step-settled, after-settled}
 use Rattle.board.proofs.World.{ok, rules, world-holds}
 use Rattle.board.proofs.Writes.{part-written}

@@ -1,27 +1,26 @@
 -- Demand 3 and what goes beyond it, on the scoring board: every premise is met, and what is said is computed as well.
 -- Assumes nothing.
 use Prim.Native.Nat.{ℕ, zero, suc, _<_}
-use mathlib.Core.Path.{_≡_, refl, sym, ap, ap₂, _∙_, subst}
+use mathlib.Core.Path.{_≡_, refl, ap, ap₂, _∙_}
 use mathlib.Core.Logic.{inl, inr}
-use mathlib.Core.Bool.{Bool, true, false, not, true≢false, false≢true}
+use mathlib.Core.Bool.{Bool, true, false, true≢false, false≢true}
 use mathlib.Core.List.{List, [], _∷_, _++_}
 use native.Mathlib.Nat.{not-suc-le-zero, le-of-suc-le-suc}
 use native.Mathlib.Omega.{arith}
 use lib.IntN.{ℤ, pos, negsuc}
 use lib.ListN.{length, getD, replicate}
-use Rattle.tables.specs.declared.Part.{Part}
 use Rattle.tables.specs.declared.Part.the-variants.{Read as reading, Write as writing}
 use Rattle.tables.specs.Marks.{joined, downFrom}
-use Rattle.tables.specs.View.{Tables, sound, Plain, Among, isVolatile, isTrigger, registerCount, registerWidth, registerHas, parameterOf, offsetOf, isDot, isOne, variableCount, kindOf, variableHas, bitsOf, size, placeOf, without, mentions, registersOf}
+use Rattle.tables.specs.View.{sound, Plain, Among, isVolatile, isTrigger, registerCount, registerWidth, registerHas, parameterOf, offsetOf, isDot, isOne, variableCount, kindOf, variableHas, bitsOf, size, placeOf, without, mentions, registersOf}
 use Rattle.station.specs.declared.Operation.the-variants.{Idle}
 use Rattle.station.specs.declared.Answer.{Answer}
-use Rattle.station.specs.declared.Answer.the-variants.{Refused, Opened, Offer as Offered, Done}
+use Rattle.station.specs.declared.Answer.the-variants.{Refused, Opened, Done}
 use Rattle.bits.specs.Bits.{bit, numberOf}
 use Rattle.bits.specs.Values.{inRange, encode, decode}
 use Rattle.station.specs.Calls.{State, stepsOf, unless, isLong, isUnderway, isRead, isGathered, isAllowed, ownBit, otherBit, settingsBit, settingsByte, writtenByte, gatheredBit, gather, opening}
-use Rattle.board.specs.Board.{Cells, World, Call, BeginRead, BeginWrite, Confirm, Abandon, put, answers, lastWhere, reached, step, after, opened, wholeRead, wholeWrite}
+use Rattle.board.specs.Board.{World, Call, BeginRead, BeginWrite, Confirm, Abandon, put, answers, lastWhere, reached, after, opened, wholeRead, wholeWrite}
 use Rattle.board.specs.Demand.{Opening, worldAfter, writesOf, Work, EqualBoards}
-use Rattle.board.specs.Stops.{leftBy, listed, readBack, midWrite}
+use Rattle.board.specs.Stops.{leftBy, listed, readBack}
 use Rattle.board.proofs.Demand3.{demand-3}
 use Rattle.board.proofs.Stops.{power-lost}
 use Rattle.board.proofs.Passed.{passed, after-passed, opened-passed, world-passed}

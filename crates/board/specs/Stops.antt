@@ -9,13 +9,13 @@ use mathlib.Core.Option.{some}
 use lib.Dec.{eqb}
 use lib.IntN.{ℤ}
 use lib.ListN.{length, getD, take}
-use Rattle.tables.specs.declared.Part.the-variants.{Read as reading, Write as writing}
-use Rattle.tables.specs.View.{Tables, sound, Plain, registerCount, variableCount, variableHas, kindOf, size, homeOf, spotOf, registersOf, Among, isAmong}
+use Rattle.tables.specs.declared.Part.the-variants.{Write as writing}
+use Rattle.tables.specs.View.{Tables, sound, Plain, registerCount, variableCount, variableHas, kindOf, size, homeOf, registersOf, Among, isAmong}
 use Rattle.bits.specs.Bits.{bit, numberOf}
 use Rattle.bits.specs.Values.{inRange, encode, decode}
 use Rattle.station.specs.declared.Answer.the-variants.{Opened}
 use Rattle.station.specs.Calls.{State, opening, isLong, keptOf, stepsOf, writtenByte}
-use Rattle.board.specs.Board.{Cells, Event, Finished, Abandoned, Asked, Nothing, ToRead, ToWrite, Due, Gives, mustRead, bitsIn, World, Call, BeginRead, BeginWrite, Confirm, Abandon, toBeSet, perform, step, after, confirms}
+use Rattle.board.specs.Board.{Cells, Event, Finished, Abandoned, Asked, Nothing, ToRead, ToWrite, Gives, mustRead, bitsIn, World, Call, BeginRead, BeginWrite, Confirm, Abandon, toBeSet, perform, step, after, confirms}
 use Rattle.board.specs.Demand.{Opening, powerOn, worldAfter, dueAfter}
 
 -- ── what the onlooker knows of a variable ──

@@ -14,26 +14,25 @@ use lib.IntN.{ℤ}
 use lib.ListN.{length, getD, set, take, drop, length-set, length-map, length-append}
 use lib.Seq.{drop-cons, drop-length, take-length, take-all, getD-set-other}
 use borrow.Author.Tests.{eqb-true, eqb-false, eq-eqb, ne-eqb, ltb-true, leb-true, le-leb}
-use Rattle.tables.specs.declared.Part.{Part}
 use Rattle.tables.specs.declared.Part.the-variants.{Read as reading, Write as writing}
 use Rattle.tables.specs.View.{Tables, sound, Among, registerCount, registerWidth, isDot, isOne, variableCount, variableHas, kindOf, size, homeOf, spotOf, registersOf}
 use Rattle.tables.proofs.Consistent.{consistent}
 use Rattle.bits.specs.Bits.{bit, numberOf}
-use Rattle.bits.specs.Values.{inRange, encode, decode}
+use Rattle.bits.specs.Values.{encode, decode}
 use Rattle.station.specs.declared.Access.{Access}
 use Rattle.station.specs.declared.Operation.{Operation}
 use Rattle.station.specs.declared.Answer.{Answer}
-use Rattle.station.specs.Calls.{Idle, Reading, Writing, Offered, Done, State, Outcome, keptOf, markOf, settingsBit, settingsByte, otherBit, writtenByte, gather, registerAt, stepsOf, accessAt, readAccess, writeAccess, Test, unless, isLong, isAllowed, isInHand, isGathered, isLast, readOn, writeOn, keeping, checked, readTests, writeTests, beginRead, beginWrite, confirm, confirmed}
+use Rattle.station.specs.Calls.{Reading, Writing, Offered, Done, State, Outcome, keptOf, settingsBit, settingsByte, otherBit, writtenByte, gather, registerAt, stepsOf, accessAt, readAccess, writeAccess, unless, isLong, isAllowed, isGathered, isLast, readOn, writeOn, keeping, checked, readTests, writeTests, beginRead, beginWrite, confirmed}
 use Rattle.station.specs.Answers.{refusalOf}
 use Rattle.station.specs.Steps.{readPlan, writePlan, broughtFor, valueRead, answersOf, offersThenDone, GoesByPlan}
-use Rattle.bits.proofs.BitLaws.{number-same, bits-equal, bit-number, number-lt}
+use Rattle.bits.proofs.BitLaws.{bits-equal, bit-number, number-lt}
 use Rattle.bits.proofs.ValueLaws.{encode-lt, decode-encode}
 use Rattle.station.proofs.Cases.{either, and-true, not-false-is, among-take, getD-among}
 use Rattle.station.proofs.ByteLaws.{gather-here, gather-there}
 use Rattle.station.proofs.Registers.{Once, mentioned, some-step}
 use Rattle.station.proofs.Distinct.{registers-once, once-apart, at-most-8}
 use Rattle.station.proofs.Underway.{is-underway, allow-reading, allow-writing, gathered-none, gathered-more, gather-lt}
-use Rattle.station.proofs.Refusals.{NoneHolds, unless-cases}
+use Rattle.station.proofs.Refusals.{unless-cases}
 
 -- ── lists ──
 
