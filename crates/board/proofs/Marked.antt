@@ -10,8 +10,8 @@ use Rattle.bits.specs.Bits.{bit, numberOf}
 use Rattle.bits.specs.Values.{inRange, encode, decode}
 use Rattle.tables.specs.Every.{every, some, zerosFront}
 use Rattle.tables.specs.Marks.{joined, downFrom, has, meets, distinct}
-use Rattle.tables.specs.Rules.{rangesFit, parameterFault, parameterShape, offsetIn, placed, placeTaken, registerFault, registerPartShape, registerShape, onDots, pieceFits, partMaps, widthFits, typeFits, volatileFits, ownFault, variablePartShape, variableShape, mappedBefore, triggerShared, covered}
-use Rattle.tables.specs.Sound.{tablesFit, restZero, shapesFit, variableFault, rulesKept}
+use Rattle.tables.specs.Rules.{rangesFit, parameterFault, parameterShape, offsetIn, placed, placeTaken, registerFault, registerPartShape, registerShape, onDots, pieceFits, partMaps, widthFits, typeFits, volatileFits, ownFault, variablePartShape, variableShape, mappedBefore, triggerShared, variableFault, covered}
+use Rattle.tables.specs.Sound.{tablesFit, restZero, shapesFit, rulesKept}
 use Rattle.tables.specs.Sound as S
 use Rattle.tables.specs.declared.Part.the-variants.{Write as writing}
 use Rattle.tables.specs.View.{Tables, sound, registerCount, registerWidth, registerHas, parameterOf, offsetOf, isDot, isOne, variableCount, kindOf, variableHas, bitsOf, size, placeOf, without, mentions, registersOf}

@@ -7,9 +7,8 @@ use lib.ListN.{replicate}
 use Rattle.bits.specs.Bits.{bit}
 use Rattle.tables.specs.Every.{every, some, zerosFront}
 use Rattle.tables.specs.Marks.{joined, downFrom, has, meets, distinct}
-use Rattle.tables.specs.Rules.{rangesFit, parameterFault, parameterShape, offsetIn, placed, placeTaken, registerFault, registerPartShape, registerShape, onDots, pieceFits, partMaps, widthFits, typeFits, volatileFits, ownFault, variablePartShape, variableShape, mappedBefore, triggerShared, covered}
+use Rattle.tables.specs.Rules.{rangesFit, parameterFault, parameterShape, offsetIn, placed, placeTaken, registerFault, registerPartShape, registerShape, onDots, pieceFits, partMaps, widthFits, typeFits, volatileFits, ownFault, variablePartShape, variableShape, mappedBefore, triggerShared, variableFault, covered}
 use Rattle.tables.specs.Sound.{tablesFit, restZero, shapesFit, rulesKept}
-use Rattle.tables.specs.Rules.{variableFault}
 use Rattle.tables.specs.Sound as S
 use Rattle.tables.specs.View.{Tables, sound}
 use Rattle.board.proofs.Entries.{part, noPart, register, piece, pieces, noPieces, variable, parameter, sameParts, plainly}
