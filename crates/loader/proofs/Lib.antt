@@ -1,3 +1,5 @@
 -- Laws that belong to no one function.
 pub mod WordLaws
 pub mod NameLaws
+pub mod MaskLaws
+pub mod OffsetLaws

@@ -9,12 +9,13 @@ use mathlib.Core.List.{List, [], _∷_}
 use lib.Dec.{eqb, ltb, leb}
 use lib.ListN.{length, getD, take, drop, length-drop}
 use lib.Seq.{drop-cons, take-all, take-length, drop-length}
-use borrow.Author.Tests.{eq-eqb, ne-eqb, lt-ltb, le-ltb, eqb-true, leb-true, leb-false}
+use borrow.Author.Tests.{eq-eqb, ne-eqb, lt-ltb, le-ltb, eqb-true, leb-true, leb-false, ltb-true}
 use Rattle.token.specs.Bytes.{begins}
 use Rattle.tables.specs.Every.{firstOf, Word}
+use Rattle.tables.specs.Tables.{countOf}
 use Rattle.tables.proofs.Laws.{first-found, and-right}
 use Rattle.loader.specs.declared.names.Found.the-variants.{At, Nothing}
-use Rattle.loader.specs.Names.{standsAt, isNamed, heldOf, Held, foundBelow, foundIn}
+use Rattle.loader.specs.Names.{standsAt, isNamed, heldOf, Held, foundBelow, foundIn, indexOf}
 use Rattle.loader.proofs.WordLaws.{drop-all}
 
 module _ (name text : List ℕ) (k : ℕ) where
@@ -107,3 +108,17 @@ unfolding heldOf
 held-some stride table {n} {r} w e =
     let l : min n ((length table - 1) / stride) ≤ n = min-le-left n ((length table - 1) / stride) in
     record { is = e ∙ ap (λ (m : ℕ). min m ((length table - 1) / stride)) (w .is); small = omega (arith, w .small) }
+
+-- the index of what is found is small
+pub index-small : (text table : List ℕ) (stride : ℕ) (name : List ℕ) → countOf table < 4294967296 → indexOf (foundIn text table stride name) < 4294967296
+unfolding foundIn foundBelow heldOf indexOf
+index-small text table stride name h =
+    go (ltb (firstOf (heldOf stride table) (λ i. isNamed text table (stride * i + 1) name)) (heldOf stride table)) refl
+  where
+    go : (b : Bool) → ltb (firstOf (heldOf stride table) (λ i. isNamed text table (stride * i + 1) name)) (heldOf stride table) ≡ b
+        → indexOf (foundIn text table stride name) < 4294967296
+    go true e =
+        let l : firstOf (heldOf stride table) (λ i. isNamed text table (stride * i + 1) name) < heldOf stride table = ltb-true _ _ e in
+        let m : heldOf stride table ≤ countOf table = min-le-left (countOf table) ((length table - 1) / stride) in
+        rw e (omega arith)
+    go false e = rw e (omega arith)

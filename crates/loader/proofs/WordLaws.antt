@@ -1,5 +1,5 @@
 -- Turns of the loops that store words.
-use Prim.Native.Nat.{ℕ, zero, suc, _+_, _≤_, _<_}
+use Prim.Native.Nat.{ℕ, zero, suc, _+_, _*_, _≤_, _<_}
 use native.Mathlib.Omega.{arith}
 use native.Mathlib.Nat.{not-suc-le-zero, le-of-suc-le-suc}
 use native.Mathlib.Numerals.{add-one}
@@ -7,7 +7,8 @@ use mathlib.Core.Path.{_≡_, refl, ap, _∙_}
 use mathlib.Core.List.{List, [], _∷_, _++_}
 use lib.ListN.{length, getD, drop, set, replicate}
 use lib.Seq.{drop-cons, sets}
-use Rattle.loader.specs.Words.{written, cleared}
+use Rattle.tables.specs.Tables.{countOf}
+use Rattle.loader.specs.Words.{wordOf, written, appended, cleared}
 
 pub drop-all : (n : ℕ) (l : List ℕ) → length l ≤ n → drop n l ≡ []
 drop-all zero [] h = refl
@@ -49,3 +50,23 @@ clear-turn k t h e = rw (e, add-one) (clear-suc k t h)
 
 pub clear-end : {k size : ℕ} (t : List ℕ) {s : List ℕ} → k ≤ size → size ≤ k → s ≡ cleared k t → s ≡ cleared size t
 clear-end {k} {size} t l g e = let q : k ≡ size = omega arith in e ∙ ap (λ (n : ℕ). cleared n t) q
+
+-- stores of two runs, one behind the other
+pub written-both : (t : List ℕ) (at : ℕ) (xs ys : List ℕ) → written t at (xs ++ ys) ≡ written (written t at xs) (at + length xs) ys
+unfolding written
+written-both t at [] ys = let q : at ≡ at + 0 = omega arith in ap (λ (n : ℕ). sets t n ys) q
+written-both t at (x ∷ xs) ys =
+    let q : suc at + length xs ≡ at + suc (length xs) = omega arith in
+    written-both (set t at x) (suc at) xs ys ∙ ap (λ (n : ℕ). sets (sets (set t at x) (suc at) xs) n ys) q
+
+-- an entry written in two runs, or in three, and counted
+pub appended-two : (stride : ℕ) (t : List ℕ) {count : ℕ} {t₁ t₂ t₃ : List ℕ} (xs ys : List ℕ) → count ≡ countOf t → t₁ ≡ written t (stride * count + 1) xs
+    → t₂ ≡ written t₁ (stride * count + 1 + length xs) ys → t₃ ≡ set t₂ 0 (wordOf (count + 1)) → t₃ ≡ appended stride t (xs ++ ys)
+unfolding appended
+appended-two stride t xs ys n a b c = c ∙ rw (b, a, n, written-both)
+
+pub appended-three : (stride : ℕ) (t : List ℕ) {count a b : ℕ} {t₁ t₂ t₃ t₄ : List ℕ} (xs ys zs : List ℕ) → a ≡ length xs → b ≡ length (xs ++ ys)
+    → count ≡ countOf t → t₁ ≡ written t (stride * count + 1) xs → t₂ ≡ written t₁ (stride * count + 1 + a) ys → t₃ ≡ written t₂ (stride * count + 1 + b) zs
+    → t₄ ≡ set t₃ 0 (wordOf (count + 1)) → t₄ ≡ appended stride t (xs ++ ys ++ zs)
+unfolding appended
+appended-three stride t xs ys zs e f n p q r d = d ∙ rw (r, q, p, n, e, f, written-both, written-both)

@@ -3,3 +3,6 @@ pub mod Fault
 pub mod State
 pub mod Names
 pub mod Words
+pub mod Parameter
+pub mod Mask
+pub mod Register

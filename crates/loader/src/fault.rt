@@ -1,6 +1,7 @@
 // A rule that a declaration breaks.
 ghost use mathlib.Core.Path.{_≡_};
-ghost use Rattle.loader.specs.Fault.{noFault, faultIf, orElse};
+ghost use Rattle.loader.specs.Fault.{noFault, faultIf, orElse, isFault};
+ghost use Rattle.loader.specs.Fault.{only as countsOnly};
 
 // The number of the rule, 0 where none is broken, and the place that is named with it.
 pub struct Fault {
@@ -36,4 +37,17 @@ pub fn or_else(first: Fault, second: Fault) -> Fault
     ensures { λ r. ⌜ r ≡ orElse first second ⌝ }
 {
     if first.number == 0 { second } else { first }
+}
+
+// A fault that counts only where the test holds.
+pub fn only(test: bool, fault: Fault) -> Fault
+    ensures { λ r. ⌜ r ≡ countsOnly test fault ⌝ }
+{
+    if test { fault } else { no_fault() }
+}
+
+pub fn is_fault(fault: Fault) -> bool
+    ensures { λ r. ⌜ r ≡ isFault fault ⌝ }
+{
+    fault.number != 0
 }

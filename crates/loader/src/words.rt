@@ -26,6 +26,14 @@ pub fn store(table: &mut [u32], at: usize, words: &[u32])
     }
 }
 
+// Counts one more entry, once it is written.
+pub fn count_one(table: &mut [u32], count: usize)
+    requires { ⌜ count < 2 ^ 32 ⌝ }
+    ensures { λ _. ⌜ now (table .exit) ≡ set (now (table .entry)) 0 (wordOf (count + 1)) ⌝ }
+{
+    put(table, 0, narrow(count + 1));
+}
+
 pub fn least(a: usize, b: usize) -> usize
     ensures { λ r. ⌜ r ≡ min a b ⌝ }
 {

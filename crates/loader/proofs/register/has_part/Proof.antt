@@ -1,0 +1,12 @@
+-- `loader::register::has_part` meets its contract.
+use mathlib.Core.Path.{refl}
+use Rattle.loader.specs.Register.{hasPart}
+use Rattle.loader.proofs.register.has_part.Statement.{statement}
+use Rattle.loader.proofs.register.has_part.Tie as tie
+
+returns : tie.Need-returns
+unfolding hasPart
+returns c = refl
+
+pub has-part-spec : {M : Type 1} → statement M
+has-part-spec = tie.close (tie.spec returns)
