@@ -3,3 +3,5 @@ pub mod WordLaws
 pub mod NameLaws
 pub mod MaskLaws
 pub mod OffsetLaws
+pub mod ListLaws
+pub mod VariableLaws

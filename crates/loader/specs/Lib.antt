@@ -6,3 +6,5 @@ pub mod Words
 pub mod Parameter
 pub mod Mask
 pub mod Register
+pub mod Lists
+pub mod Variable

@@ -5,6 +5,9 @@ pub mod mask;
 pub mod names;
 pub mod parameter;
 pub mod register;
+pub mod lists;
+pub mod names;
+pub mod variable;
 pub mod words;
 
 pub use declared::Judging;
