@@ -4,4 +4,5 @@ pub mod NameLaws
 pub mod MaskLaws
 pub mod OffsetLaws
 pub mod ListLaws
+pub mod FrameLaws
 pub mod VariableLaws

@@ -1,16 +1,16 @@
 -- Turns of the loops over the pieces of a bit list, and words stored one by one.
 use Prim.Native.Nat.{ℕ, suc, _+_, _*_}
 use native.Mathlib.Numerals.{add-one}
-use mathlib.Core.Path.{_≡_, refl}
+use mathlib.Core.Path.{_≡_, refl, ap, _∙_}
 use mathlib.Core.Bool.{Bool}
 use mathlib.Core.List.{List, [], _∷_}
-use lib.ListN.{getD, set}
+use lib.ListN.{getD, set, replicate}
 use Rattle.loader.specs.declared.fault.Fault.{Fault}
 use Rattle.loader.specs.declared.names.Found.{Found}
 use Rattle.loader.specs.Fault.{noFault, faultIf, orElse}
 use Rattle.loader.specs.Words.{wordOf, written}
 use Rattle.loader.specs.Names.{isNothing, indexOf}
-use Rattle.loader.specs.Lists.{pieceNamed, unknownIn, pieceWords, piecesOn}
+use Rattle.loader.specs.Lists.{pieceNamed, unknownIn, pieceWords, piecesOn, piecesOf}
 
 -- one word stored, then others
 pub written-none : (t : List ℕ) (at : ℕ) → t ≡ written t at []
@@ -42,3 +42,7 @@ module _ (text rs list : List ℕ) where
       → next ≡ written here (3 * k) (wordOf register ∷ wordOf high ∷ wordOf low ∷ []) → next ≡ piecesOn text rs list t (k + 1)
   unfolding piecesOn pieceWords
   pieces-more t k h f r u l n = rw (add-one, n, l, u, r, f, h)
+
+  -- stored on zeros
+  pub pieces-from : (n : ℕ) {t w : List ℕ} → t ≡ piecesOn text rs list w n → w ≡ replicate 24 0 → t ≡ piecesOf text rs list n
+  pieces-from n h e = h ∙ ap (λ (z : List ℕ). piecesOn text rs list z n) e

@@ -1,5 +1,6 @@
 -- Judging a variable: rules 6, 7 and 11 to 15 in the order of document 01, and the entry that it gets.
 use Prim.Native.Nat.{ℕ, _+_, min}
+use mathlib.Core.Path.{_≡_}
 use mathlib.Core.Bool.{Bool, _&&_, _||_, not, cond}
 use mathlib.Core.List.{List, [], _∷_}
 use lib.Dec.{eqb, leb}
@@ -56,6 +57,10 @@ lowest a b = cond (eqb a 0) b (cond (eqb b 0) a (min a b))
 
 -- ── the judging ──
 
+-- what was read, as the code holds it: the variable by value, its lists lent
+unfoldable pub readOf : Variable → List ℕ → List ℕ → VariableRead
+readOf d first second = record { variable = d; first = first; second = second }
+
 module _ (text : List ℕ) (s : State) (it : VariableRead) where
   -- the pieces of the two lists, as the tables hold them
   abbrev pub firstPieces : List ℕ
@@ -68,13 +73,16 @@ module _ (text : List ℕ) (s : State) (it : VariableRead) where
   abbrev pub listOf : ℕ → ℕ
   listOf p = listFor (s .registers) (it .variable) firstPieces p
 
-  -- what breaks before there is an entry: 6; 7 at the first name in the text; 11 by the lists' pairing, or where a bare list gives neither part
-  unfoldable pub earlyFault : Fault
-  earlyFault =
+  -- 6; 7 at the first name in the text
+  unfoldable pub nameFault : Fault
+  nameFault =
       orElse (declaredBefore text s (it .variable .place) (it .variable .length))
       (orElse (unknownIn text (s .registers) (it .first) (it .variable .count))
-      (orElse (unknownIn text (s .registers) (it .second) (it .variable .rest .count))
-      (faultIf (eqb (listOf 0) 0 && eqb (listOf 1) 0) 11 (it .variable .place))))
+      (unknownIn text (s .registers) (it .second) (it .variable .rest .count)))
+
+  -- what breaks before there is an entry: 6, 7, then 11 by a bad pairing or by a bare list that gives neither part
+  unfoldable pub earlyFault : Fault
+  earlyFault = orElse nameFault (faultIf (eqb (listOf 0) 0 && eqb (listOf 1) 0) 11 (it .variable .place))
 
   abbrev pub variablesWith : List ℕ
   variablesWith = withVariable (s .variables) (it .variable) firstPieces secondPieces (listOf 0) (listOf 1)
@@ -105,8 +113,13 @@ module _ (text : List ℕ) (s : State) (it : VariableRead) where
         fault = earlyFault;
       })
 
--- ── the maps that the code carries: those of the first n variables, for both parts ──
+-- ── the maps that the code carries ──
 
+-- those of the first n variables, for both parts
 pub record Mapped (vs : List ℕ) (n : ℕ) (bits held pulled bits1 held1 pulled1 : List ℕ) : Type 0 where
   pub read : Before vs 0 n bits held pulled
   pub write : Before vs 1 n bits1 held1 pulled1
+
+-- the same, where no rule is broken: nobody asks for them after a fault
+abbrev pub MappedUnless : ℕ → List ℕ → ℕ → List ℕ → List ℕ → List ℕ → List ℕ → List ℕ → List ℕ → Type 0
+MappedUnless number vs n bits held pulled bits1 held1 pulled1 = number ≡ 0 → Mapped vs n bits held pulled bits1 held1 pulled1
