@@ -11,12 +11,9 @@ use lib.Seq.{getD-set-other}
 use borrow.Author.Tests.{leb-true, leb-false, eqb-true, eq-eqb, ne-eqb}
 use Rattle.syntax.specs.declared.variable.Variable.{Variable}
 use Rattle.tables.specs.Every.{every}
-use Rattle.tables.specs.Marks.{marks}
-use Rattle.tables.specs.Rules.{variableShape}
-use Rattle.tables.specs.Tables.{countOf, variableAt, variablePart, partBits, partRegisters}
-use Rattle.tables.specs.Scan.{Before, pulledBy}
-use Rattle.tables.specs.Sound.{variableFault}
-use Rattle.tables.proofs.MapLaws.{map-more}
+use Rattle.tables.specs.Rules.{variableShape, variableFault}
+use Rattle.tables.specs.Tables.{countOf, variableAt, variablePart}
+use Rattle.tables.specs.Scan.{Entered}
 use Rattle.loader.specs.Words.{wordOf, written}
 use Rattle.loader.specs.Lists.{listFor, partWords}
 use Rattle.token.specs.Kind.{pick}
@@ -26,7 +23,9 @@ use Rattle.loader.specs.declared.declared.Judging.{Judging}
 use Rattle.loader.specs.Fault.{noFault, faultIf, orElse}
 use Rattle.loader.specs.State.{State, stateOf}
 use Rattle.loader.specs.Variable.{triggers, headWords, withVariable, badBehaviours, lowest, readOf, nameFault, firstPieces, secondPieces, earlyFault, lateNumber, judgeVariable, Mapped}
-use Rattle.loader.proofs.FrameLaws.{Same, written-below, before-same}
+use Rattle.loader.proofs.FrameLaws.{written-below, before-same}
+use Rattle.tables.proofs.SameLaws.{Alike}
+use Rattle.tables.proofs.Growth.{before-more}
 
 -- the lower of two numbers, by a test
 pub least-of : (a b : ℕ) → cond (leb a b) a b ≡ min a b
@@ -35,17 +34,6 @@ least-of a b = go (leb a b) refl
     go : (t : Bool) → leb a b ≡ t → cond t a b ≡ min a b
     go true h = sym (min-eq-left (leb-true a b h))
     go false h = let l = leb-false a b h in sym (min-eq-right (omega arith))
-
--- the maps of one variable more
-pub before-more : (vs : List ℕ) (p v : ℕ) {bits held pulled bits′ held′ pulled′ : List ℕ} → Before vs p v bits held pulled
-    → bits′ ≡ marks bits (partBits vs (variablePart v p)) → held′ ≡ marks held (partRegisters vs (variablePart v p))
-    → pulled′ ≡ marks pulled (pulledBy vs (variablePart v p)) → Before vs p (v + 1) bits′ held′ pulled′
-before-more vs p v b x y z =
-    record {
-      bits-are = map-more 2048 _ v (b .bits-are) x;
-      held-are = map-more 64 _ v (b .held-are) y;
-      pulled-are = map-more 64 _ v (b .pulled-are) z;
-    }
 
 -- the entry, store by store
 pub entered : (vs : List ℕ) (d : Variable) (first second : List ℕ) (read write : ℕ) {v count reads writes : ℕ} {headed half whole all : List ℕ}
@@ -60,7 +48,7 @@ entered vs d first second read write e r w h p q a c = rw (a, c, q, p, h, r, w, 
 
 -- the words before the new entry are as they were, the count aside
 pub before-entry : (vs : List ℕ) (d : Variable) (first second : List ℕ) (read write : ℕ)
-    → Same vs (withVariable vs d first second read write) 1 (variableAt (countOf vs))
+    → Alike (variableAt (countOf vs)) vs (withVariable vs d first second read write)
 unfolding withVariable
 before-entry vs d first second read write i a z =
     let v = countOf vs in
@@ -92,9 +80,10 @@ pub judged-at : (rs t : List ℕ) (other : ℕ) {number v n : ℕ} → number �
     → number ≡ lowest (variableFault rs t n) other
 judged-at rs t other h e = rw (← e) h
 
-pub mapped-at : (t : List ℕ) {v n : ℕ} {bits held pulled bits1 held1 pulled1 : List ℕ} → v ≡ n → Before t 0 (v + 1) bits held pulled
-    → Before t 1 (v + 1) bits1 held1 pulled1 → Mapped t (n + 1) bits held pulled bits1 held1 pulled1
-mapped-at t e r w = rw (← e) (record { read = r; write = w })
+pub mapped-at : (t : List ℕ) {v n : ℕ} {bits held pulled bits1 held1 pulled1 bits′ held′ pulled′ bits1′ held1′ pulled1′ : List ℕ} → v ≡ n
+    → Mapped t v bits held pulled bits1 held1 pulled1 → Entered t 0 v bits held pulled bits′ held′ pulled′
+    → Entered t 1 v bits1 held1 pulled1 bits1′ held1′ pulled1′ → Mapped t (n + 1) bits′ held′ pulled′ bits1′ held1′ pulled1′
+mapped-at t {v} e m r w = rw (← e) (record { read = before-more t 0 v (m .read) r; write = before-more t 1 v (m .write) w })
 
 -- ---- the judging, call by call
 pub late-none : (place : ℕ) {number : ℕ} {late : Fault} → late ≡ faultIf (not (eqb number 0)) number place → late .number ≡ 0 → number ≡ 0

@@ -9,7 +9,7 @@ use lib.ListN.{getD, replicate}
 use Rattle.token.specs.Kind.{pick}
 use Rattle.syntax.specs.declared.variable.Variable.{Variable}
 use Rattle.tables.specs.Every.{every}
-use Rattle.tables.specs.Tables.{present, registerPart}
+use Rattle.tables.specs.Words.{present, registerPart}
 use Rattle.loader.specs.declared.fault.Fault.{Fault}
 use Rattle.loader.specs.declared.names.Found.{Found}
 use Rattle.loader.specs.Fault.{noFault, faultIf, orElse}

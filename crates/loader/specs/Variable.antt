@@ -11,7 +11,7 @@ use Rattle.syntax.specs.declared.variable.Variable.{Variable}
 use Rattle.syntax.specs.Variable.{VariableRead}
 use Rattle.tables.specs.Tables.{countOf, variableAt, variablePart}
 use Rattle.tables.specs.Scan.{Before}
-use Rattle.tables.specs.Sound.{variableFault}
+use Rattle.tables.specs.Rules.{variableFault}
 use Rattle.loader.specs.declared.fault.Fault.{Fault}
 use Rattle.loader.specs.Fault.{faultIf, orElse}
 use Rattle.loader.specs.Words.{wordOf, written}

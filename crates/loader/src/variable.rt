@@ -4,10 +4,8 @@ ghost use mathlib.Core.Bool.{true, cond};
 ghost use Prim.Native.Nat.{_+_, _<_, _≤_, _^_};
 ghost use lib.ListN.{length, replicate};
 ghost use Rattle.tables.specs.Every.{every};
-ghost use Rattle.tables.specs.Tables.{countOf, variablePart};
-ghost use Rattle.tables.specs.Rules.{variableShape};
-ghost use Rattle.tables.specs.Scan.{Before};
-ghost use Rattle.tables.specs.Sound.{variableFault};
+ghost use Rattle.tables.specs.Tables.{countOf};
+ghost use Rattle.tables.specs.Rules.{variableFault, variableShape};
 ghost use Rattle.loader.specs.Words.{written};
 ghost use Rattle.loader.specs.State.{stateOf};
 ghost use Rattle.loader.specs.Variable.{triggers, headWords, withVariable, badTrigger, badBehaviours, lowest, nameFault, firstPieces, secondPieces, readOf, judgeVariable, Mapped, MappedUnless};
@@ -23,10 +21,8 @@ use crate::words::narrow;
 use crate::words::put;
 use syntax::Behaviours;
 use syntax::Variable;
+use tables::faults::enter_part;
 use tables::faults::variable_fault;
-use tables::pieces::mark_part;
-use tables::pieces::mark_registers;
-use tables::scan::mark_pulled;
 use tables::words::pick;
 use tables::words::word;
 
@@ -115,26 +111,6 @@ pub fn lowest(a: u32, b: u32) -> u32
     pick(a == 0, b, pick(b == 0, a, pick(a <= b, a, b)))
 }
 
-// Marks what a part of variable v holds, so that the maps are those of one variable more.
-pub fn mark_more(
-    bits: &mut [u8],
-    held: &mut [u8],
-    pulled: &mut [u8],
-    variables: &[u32],
-    part: usize,
-    v: usize,
-)
-    requires { ⌜ part < 2 ⌝ }
-    requires { ⌜ v < 2 ^ 16 ⌝ }
-    requires { ⌜ Before (now variables) part v (now bits) (now held) (now pulled) ⌝ }
-    ensures { λ _. ⌜ Before (now (variables .entry)) part (v + 1) (now (bits .exit)) (now (held .exit)) (now (pulled .exit)) ⌝ }
-{
-    let at = 59 * v + 6 + 27 * part;
-    mark_part(bits, variables, at);
-    mark_registers(held, variables, at);
-    mark_pulled(pulled, variables, at);
-}
-
 // 0, or the lowest rule of 11 to 15 that the entry of variable v breaks, rule 13 as written among them.
 pub fn late_number(
     registers: &[u32],
@@ -213,8 +189,8 @@ pub fn enter(
         pulled1,
     );
     if number == 0 {
-        mark_more(bits, held, pulled, variables, 0, v);
-        mark_more(bits1, held1, pulled1, variables, 1, v);
+        enter_part(bits, held, pulled, variables, v, 0);
+        enter_part(bits1, held1, pulled1, variables, v, 1);
     }
     number
 }

@@ -6,7 +6,7 @@ use mathlib.Core.Path.{_≡_, sym, ap, _∙_}
 use lib.ListN.{getD}
 use lib.Dec.{eqb}
 use Rattle.tables.specs.Every.{every}
-use Rattle.tables.specs.Tables.{present, registerPart}
+use Rattle.tables.specs.Words.{present, registerPart}
 use Rattle.tables.proofs.Laws.{every-none, gathers, gathered}
 use Rattle.loader.specs.Lists.{allHave}
 use Rattle.loader.proofs.lists.all_have.Statement.{statement}

@@ -16,25 +16,15 @@ late-number-requires c κs =
     let p = c .before .before .before .before .before .before .before .before .before .before .before .before .before .before .before .before .before .before .before .before .before .before .before .before .pre .1 .1 .1 .1 in
     (search needs, (search needs, mapped-entry _ _ _ _ _ _ (p .0) (p .1) (c .before .before .before .before .before .before .before .before .before .store-variable .ensures) (c .before .before .before .before .before .before .before .before .before .before .before .before .word .ensures .is)))
 
-mark-more-requires : tie.Need-mark-more-requires
-mark-more-requires c κs =
-    let p = c .before .before .before .before .before .before .before .before .before .before .before .before .before .before .before .before .before .before .before .before .before .before .before .before .before .before .before .before .before .before .pre .1 .1 .1 .1 in (
-      omega arith,
-      (
-        omega (arith, c .before .before .before .before .before .before .before .before .before .before .before .before .before .before .before .before .before .before .word .ensures .is, c .before .before .before .before .before .before .before .before .before .before .before .before .before .before .before .before .before .before .before .before .before .before .before .before .before .before .before .before .before .before .pre .1 .0),
-        mapped-entry _ _ _ _ _ _ (p .0) (p .1) (c .before .before .before .before .before .before .before .before .before .before .before .before .before .before .before .store-variable .ensures) (c .before .before .before .before .before .before .before .before .before .before .before .before .before .before .before .before .before .before .word .ensures .is) .read,
-      ),
-    )
+enter-part-requires : tie.Need-enter-part-requires
+enter-part-requires c κs =
+    let start = c .before .before .before .before .before .before .before .before .before .before .before .before .before .before .before .before .before .before .before .before .before .before .before .before .before .before .before .before .before .before in
+    (omega (arith, c .before .before .before .before .before .before .before .before .before .before .before .before .before .before .before .before .before .before .word .ensures .is, start .pre .1 .0), omega arith)
 
-mark-more-requires-2 : tie.Need-mark-more-requires-2
-mark-more-requires-2 c κs =
-    let p = c .before .before .before .before .before .before .before .before .before .before .before .before .before .before .before .before .before .before .before .before .before .before .before .before .before .before .before .before .before .before .before .before .before .before .before .before .before .before .before .before .before .pre .1 .1 .1 .1 in (
-      omega arith,
-      (
-        omega (arith, c .before .before .before .before .before .before .before .before .before .before .before .before .before .before .before .before .before .before .before .before .before .before .before .before .before .before .before .before .before .word .ensures .is, c .before .before .before .before .before .before .before .before .before .before .before .before .before .before .before .before .before .before .before .before .before .before .before .before .before .before .before .before .before .before .before .before .before .before .before .before .before .before .before .before .before .pre .1 .0),
-        mapped-entry _ _ _ _ _ _ (p .0) (p .1) (c .before .before .before .before .before .before .before .before .before .before .before .before .before .before .before .before .before .before .before .before .before .before .before .before .before .before .store-variable .ensures) (c .before .before .before .before .before .before .before .before .before .before .before .before .before .before .before .before .before .before .before .before .before .before .before .before .before .before .before .before .before .word .ensures .is) .write,
-      ),
-    )
+enter-part-requires-2 : tie.Need-enter-part-requires-2
+enter-part-requires-2 c κs =
+    let start = c .before .before .before .before .before .before .before .before .before .before .before .before .before .before .before .before .before .before .before .before .before .before .before .before .before .before .before .before .before .before .before .before .before .before .before .before .before .before .before .before .before in
+    (omega (arith, c .before .before .before .before .before .before .before .before .before .before .before .before .before .before .before .before .before .before .before .before .before .before .before .before .before .before .before .before .before .word .ensures .is, start .pre .1 .0), omega arith)
 
 same-length : tie.Need-same-length
 same-length c = search needs
@@ -58,10 +48,20 @@ same-length-7 : tie.Need-same-length-7
 same-length-7 c = search needs
 
 returns : tie.Need-returns
-returns c = (
-  c .before .before .before .before .before .before .before .before .before .before .before .before .before .before .before .before .before .before .before .before .before .before .before .before .before .before .before .before .before .before .before .before .before .store-variable .ensures,
-  (judged-at _ _ _ (c .before .before .before .before .before .before .before .before .before .before .before .before .before .before .before .before .before .before .before .before .before .before .before .late-number .ensures) (c .before .before .before .before .before .before .before .before .before .before .before .before .before .before .before .before .before .before .before .before .before .before .before .before .before .before .before .before .before .before .before .before .before .before .before .before .word .ensures .is), λ e. mapped-at _ (c .before .before .before .before .before .before .before .before .before .before .before .before .before .before .before .before .before .before .before .before .before .before .before .before .before .before .before .before .before .before .before .before .before .before .before .before .word .ensures .is) (c .before .before .before .before .before .before .before .before .before .before .before .before .before .before .before .before .before .mark-more .ensures) (c .before .before .before .before .before .before .mark-more2 .ensures)),
-)
+returns c =
+    let judged = c .before .before .before .before .before .before .before .before .before .before .before .before .before .before .before .before .before .before .before .before .before .before .before in
+    let stored = judged .before .before .before .before .before .before .before .before .before .before in
+    let read = stored .before .before .before in
+    let start = read .before .before .before .before .before .before .before .before .before .before .before .before in
+    let p = start .pre .1 .1 .1 .1 in (
+      stored .store-variable .ensures,
+      (
+        judged-at _ _ _ (judged .late-number .ensures) (read .word .ensures .is),
+        λ e.
+            mapped-at _ (read .word .ensures .is) (mapped-entry _ _ _ _ _ _ (p .0) (p .1) (stored .store-variable .ensures) (read .word .ensures .is))
+            (c .before .before .before .before .before .before .before .before .before .before .before .before .before .before .before .before .before .enter-part .ensures) (c .before .before .before .before .before .before .enter-part2 .ensures),
+      ),
+    )
 
 same-length-8 : tie.Need-same-length-8
 same-length-8 c = search needs
@@ -94,8 +94,8 @@ enter-spec =
     word-requires
     store-variable-requires
     late-number-requires
-    mark-more-requires
-    mark-more-requires-2
+    enter-part-requires
+    enter-part-requires-2
     same-length
     same-length-2
     same-length-3
