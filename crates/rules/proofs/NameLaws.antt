@@ -1,0 +1,124 @@
+-- Turns of the loops that compare names and search for one.
+use Prim.Native.Nat.{ℕ, _+_, _-_, _*_, _/_, _≤_, _<_, min}
+use native.Mathlib.Omega.{arith}
+use native.Mathlib.Nat.{min-eq-left, min-eq-right, min-zero, min-le-left, zero-div, le-of-lt, mul-le-mul-right}
+use native.Mathlib.Numerals.{add-one}
+use mathlib.Core.Path.{_≡_, refl, sym, ap, _∙_}
+use mathlib.Core.Bool.{Bool, true, false, _&&_}
+use mathlib.Core.List.{List, [], _∷_}
+use lib.Dec.{eqb, ltb, leb}
+use lib.ListN.{length, getD, take, drop, length-drop}
+use lib.Seq.{drop-cons, take-all, take-length, drop-length}
+use borrow.Author.Tests.{eq-eqb, ne-eqb, lt-ltb, le-ltb, eqb-true, leb-true, leb-false, ltb-true}
+use Rattle.token.specs.Bytes.{begins}
+use Rattle.tables.specs.Every.{firstOf, Word}
+use Rattle.tables.specs.Tables.{countOf}
+use Rattle.tables.proofs.Laws.{first-found, and-right}
+use Rattle.rules.specs.declared.names.Found.the-variants.{At, Nothing}
+use Rattle.rules.specs.Names.{standsAt, isNamed, heldOf, Held, foundBelow, foundIn, indexOf}
+use Rattle.rules.proofs.WordLaws.{drop-all}
+
+module _ (name text : List ℕ) (k : ℕ) where
+  pub begins-end : length name ≤ k → begins (drop k name) (drop k text) ≡ true
+  unfolding begins
+  begins-end h = rw (drop-all k name h)
+
+  pub begins-short : k < length name → length text ≤ k → begins (drop k name) (drop k text) ≡ false
+  unfolding begins
+  begins-short h s = rw (drop-cons name k 0 h, drop-all k text s)
+
+  pub begins-on : k < length name → k < length text → getD text k 0 ≡ getD name k 0
+      → begins (drop k name) (drop k text) ≡ begins (drop (k + 1) name) (drop (k + 1) text)
+  unfolding begins
+  begins-on h s e = rw (add-one, drop-cons name k 0 h, drop-cons text k 0 s, eq-eqb (getD text k 0) (getD name k 0) e)
+
+  pub begins-differs : k < length name → k < length text → (getD text k 0 ≡ getD name k 0 → ⊥) → begins (drop k name) (drop k text) ≡ false
+  unfolding begins
+  begins-differs h s e = rw (drop-cons name k 0 h, drop-cons text k 0 s, ne-eqb (getD text k 0) (getD name k 0) e)
+
+-- the two ends of a search
+pub found-here : (text table : List ℕ) (stride : ℕ) (name : List ℕ) {i n : ℕ} {b : Bool} → i < n → n ≡ heldOf stride table
+    → firstOf i (λ j. isNamed text table (stride * j + 1) name) ≡ i → b ≡ isNamed text table (stride * i + 1) name → b ≡ true
+    → At i ≡ foundIn text table stride name
+unfolding foundIn foundBelow
+found-here text table stride name {i} {n} l e h b t =
+    let f = first-found n i (λ (j : ℕ). isNamed text table (stride * j + 1) name) l h (sym b ∙ t) in
+    rw (← e, f, lt-ltb i n l)
+
+pub found-none : (text table : List ℕ) (stride : ℕ) (name : List ℕ) {i n : ℕ} → i ≤ n → n ≤ i → n ≡ heldOf stride table
+    → firstOf i (λ j. isNamed text table (stride * j + 1) name) ≡ i
+    → Nothing ≡ foundIn text table stride name
+unfolding foundIn foundBelow
+found-none text table stride name {i} {n} l g e h =
+    let q : i ≡ n = omega arith in
+    rw (← e, ← q, h, le-ltb i i (omega arith))
+
+-- a part of a text whose ends are held inside it
+take-min : (n : ℕ) (l : List ℕ) → take (min n (length l)) l ≡ take n l
+take-min n l = go (leb n (length l)) refl
+  where
+    go : (b : Bool) → leb n (length l) ≡ b → take (min n (length l)) l ≡ take n l
+    go true h = rw (min-eq-left (leb-true n (length l) h))
+    go false h = rw (min-eq-right (le-of-lt (leb-false n (length l) h))) (take-length l ∙ sym (take-all n l (le-of-lt (leb-false n (length l) h))))
+
+drop-min : (n : ℕ) (l : List ℕ) → drop (min n (length l)) l ≡ drop n l
+drop-min n l = go (leb n (length l)) refl
+  where
+    go : (b : Bool) → leb n (length l) ≡ b → drop (min n (length l)) l ≡ drop n l
+    go true h = rw (min-eq-left (leb-true n (length l) h))
+    go false h = rw (min-eq-right (le-of-lt (leb-false n (length l) h))) (drop-length l ∙ sym (drop-all n l (le-of-lt (leb-false n (length l) h))))
+
+pub part-of : (text : List ℕ) (place extent : ℕ) {start more : ℕ} → start ≡ min place (length text) → more ≡ min extent (length text - start)
+    → take (start + more - start) (drop start text) ≡ take extent (drop place text)
+part-of text place extent {start} {more} s m =
+    let e : start + more - start ≡ more = omega arith in
+    rw (e, m, ← length-drop start text, take-min, s, drop-min)
+
+begins-part : (name s : List ℕ) → begins name (take (length name) s) ≡ begins name s
+unfolding begins
+begins-part [] s = refl
+begins-part (a ∷ name) [] = refl
+begins-part (a ∷ name) (x ∷ s) = ap (λ (b : Bool). eqb x a && b) (begins-part name s)
+
+module _ (text : List ℕ) (place extent : ℕ) (name : List ℕ) where
+  pub stands-taken : {b : Bool} {part : List ℕ} → (ltb 0 (length name) && eqb extent (length name)) ≡ true → b ≡ begins name part
+      → part ≡ take extent (drop place text) → b ≡ standsAt text place extent name
+  unfolding standsAt
+  stands-taken {b} {part} t e q =
+      let f : extent ≡ length name = eqb-true _ _ (and-right (ltb 0 (length name)) (eqb extent (length name)) t) in
+      rw (t, e, q, f) (begins-part name (drop place text))
+
+  pub stands-left : (ltb 0 (length name) && eqb extent (length name)) ≡ false → false ≡ standsAt text place extent name
+  unfolding standsAt
+  stands-left t = rw t
+
+-- where an entry of a search stands
+pub strides : (stride i : ℕ) → stride < 128 → i < 4294967296 → stride * i < 549755813888
+strides stride i s h =
+    let a : stride * i ≤ 127 * i = mul-le-mul-right i (omega arith) in
+    omega arith
+
+-- how many entries a table holds whole: none without a word, else what the count allows
+pub held-none : (stride : ℕ) (table : List ℕ) → length table ≡ 0 → Held stride table 0
+unfolding heldOf
+held-none stride table e = record { is = sym (rw (e, zero-div, min-zero)); small = omega arith }
+
+pub held-some : (stride : ℕ) (table : List ℕ) {n r : ℕ} → Word table 0 n → r ≡ min n ((length table - 1) / stride) → Held stride table r
+unfolding heldOf
+held-some stride table {n} {r} w e =
+    let l : min n ((length table - 1) / stride) ≤ n = min-le-left n ((length table - 1) / stride) in
+    record { is = e ∙ ap (λ (m : ℕ). min m ((length table - 1) / stride)) (w .is); small = omega (arith, w .small) }
+
+-- the index of what is found is small
+pub index-small : (text table : List ℕ) (stride : ℕ) (name : List ℕ) → countOf table < 4294967296 → indexOf (foundIn text table stride name) < 4294967296
+unfolding foundIn foundBelow heldOf indexOf
+index-small text table stride name h =
+    go (ltb (firstOf (heldOf stride table) (λ i. isNamed text table (stride * i + 1) name)) (heldOf stride table)) refl
+  where
+    go : (b : Bool) → ltb (firstOf (heldOf stride table) (λ i. isNamed text table (stride * i + 1) name)) (heldOf stride table) ≡ b
+        → indexOf (foundIn text table stride name) < 4294967296
+    go true e =
+        let l : firstOf (heldOf stride table) (λ i. isNamed text table (stride * i + 1) name) < heldOf stride table = ltb-true _ _ e in
+        let m : heldOf stride table ≤ countOf table = min-le-left (countOf table) ((length table - 1) / stride) in
+        rw e (omega arith)
+    go false e = rw e (omega arith)

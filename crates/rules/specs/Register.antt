@@ -1,0 +1,114 @@
+-- Judging a register: rules 6 to 10 and 12 in the order of document 01, and the entry that it gets.
+use Prim.Native.Nat.{ℕ, _+_}
+use mathlib.Core.Bool.{Bool, true, false, _&&_, _||_, not}
+use mathlib.Core.List.{List, [], _∷_, _++_}
+use lib.Dec.{eqb, leb}
+use lib.IntN.{pos, negsuc}
+use Rattle.token.specs.Kind.{pick}
+use Rattle.expression.specs.declared.Worth.{Worth}
+use Rattle.expression.specs.declared.Worth.the-variants.{Good, Bad}
+use Rattle.syntax.specs.declared.register.Port.{Port}
+use Rattle.syntax.specs.declared.register.Masks.{Masks}
+use Rattle.syntax.specs.declared.register.Register.{Register}
+use Rattle.tables.specs.Tables.{countOf}
+use Rattle.tables.specs.Rules.{offsetIn, registerFault}
+use Rattle.rules.specs.declared.fault.Fault.{Fault}
+use Rattle.rules.specs.declared.names.Found.{Found}
+use Rattle.rules.specs.declared.mask.Mask.{Mask}
+use Rattle.rules.specs.Fault.{faultIf, only, isFault, orElse}
+use Rattle.rules.specs.State.{State, stopped, withRegisters}
+use Rattle.rules.specs.Names.{nameOf, parameterNamed, isNothing, indexOf, declaredBefore}
+use Rattle.rules.specs.Words.{wordOf, appended}
+use Rattle.rules.specs.Mask.{maskText, maskOf}
+
+-- ── offsets ──
+
+-- an offset is a natural number; a bad expression is none
+unfoldable pub isNatural : Worth → Bool
+isNatural (Good (pos n)) = true
+isNatural (Good (negsuc n)) = false
+isNatural Bad = false
+
+unfoldable pub naturalOf : Worth → ℕ
+naturalOf (Good (pos n)) = n
+naturalOf (Good (negsuc n)) = 0
+naturalOf Bad = 0
+
+-- ── pairing and masks ──
+
+-- one port with any modifier, or one `read` (1) and one `write` (2) in either order
+unfoldable pub isPaired : Register → Bool
+isPaired r = not (r .two) || (eqb (r .first .mark) 1 && eqb (r .second .mark) 2) || (eqb (r .first .mark) 2 && eqb (r .second .mark) 1)
+
+-- a register has a part unless its one port has the modifier of the other part
+unfoldable pub hasPart : Register → ℕ → Bool
+hasPart r other = r .two || not (eqb (r .first .mark) other)
+
+-- masks for a part: at most one, a bare one counting too; none of its own where the part is missing
+unfoldable pub isMasked : Bool → ℕ → ℕ → Bool
+isMasked present bare own = pick present (leb (bare + own) 1) (eqb own 0)
+
+unfoldable pub masksKept : Register → Bool
+masksKept r =
+    not (r .masks .odd) && isMasked (hasPart r 2) (r .masks .bare) (r .masks .read) && isMasked (hasPart r 1) (r .masks .bare) (r .masks .write)
+
+-- ── the entry ──
+
+-- the port of the part with this modifier
+unfoldable pub portOf : Register → ℕ → Port
+portOf r mark = pick (r .two && not (eqb (r .first .mark) mark)) (r .second) (r .first)
+
+-- the mask of a part: its own, or the bare one, or eight dots
+unfoldable pub partMask : List ℕ → Masks → ℕ → ℕ → Mask
+partMask text masks own quote = maskOf (maskText text (leb 1 (masks .bare + own)) (pick (eqb own 0) (masks .whole) quote))
+
+-- present, parameter, offset, dots, fixed, ones; six zeros where the part is missing
+unfoldable pub partEntry : Bool → ℕ → ℕ → Mask → List ℕ
+partEntry present index offset mask =
+    pick present (1 ∷ wordOf index ∷ wordOf offset ∷ mask .dots ∷ mask .fixed ∷ mask .ones ∷ []) (0 ∷ 0 ∷ 0 ∷ 0 ∷ 0 ∷ 0 ∷ [])
+
+-- the parameter that a port names, among the parameters `ps`
+unfoldable pub portFound : List ℕ → List ℕ → Port → Found
+portFound text ps p = parameterNamed text ps (nameOf text (p .place) (p .length))
+
+-- the words of a part: `mark` is its modifier, `other` the other part's; `own` and `quote` say of its own masks
+unfoldable pub partWords : List ℕ → List ℕ → Register → ℕ → ℕ → ℕ → ℕ → List ℕ
+partWords text ps r mark other own quote =
+    partEntry (hasPart r other) (indexOf (portFound text ps (portOf r mark))) (naturalOf (portOf r mark .worth)) (partMask text (r .masks) own quote)
+
+-- name place, name length, width, the read part, the write part
+unfoldable pub registerEntry : List ℕ → List ℕ → Register → List ℕ
+registerEntry text ps r =
+    (wordOf (r .place) ∷ wordOf (r .length) ∷ r .width ∷ []) ++ partWords text ps r 1 2 (r .masks .read) (r .masks .reading) ++
+    partWords text ps r 2 1 (r .masks .write) (r .masks .writing)
+
+-- ── the rules ──
+
+-- 7, at the port's name
+unfoldable pub unknownPort : List ℕ → List ℕ → Port → Fault
+unknownPort text ps p = faultIf (isNothing (portFound text ps p)) 7 (p .place)
+
+-- 8, at the `@`, or at the declared name where the offset is left out
+unfoldable pub badOffset : List ℕ → List ℕ → ℕ → Port → Fault
+badOffset text ps place p =
+    faultIf (not (isNatural (p .worth) && offsetIn ps (indexOf (portFound text ps p)) (naturalOf (p .worth)))) 8 (pick (p .given) (p .sign) place)
+
+-- 6 to 9, as the register is written
+unfoldable pub registerWritten : List ℕ → State → Register → Fault
+registerWritten text s r =
+    orElse (declaredBefore text s (r .place) (r .length))
+    (orElse (unknownPort text (s .parameters) (r .first))
+    (orElse (only (r .two) (unknownPort text (s .parameters) (r .second)))
+    (orElse (badOffset text (s .parameters) (r .place) (r .first))
+    (orElse (only (r .two) (badOffset text (s .parameters) (r .place) (r .second)))
+    (faultIf (not (isPaired r && masksKept r)) 9 (r .place))))))
+
+-- the entry is written, then judged by 10 and 12
+unfoldable pub addedRegister : List ℕ → State → Register → State
+addedRegister text s r =
+    let table : List ℕ = appended 15 (s .registers) (registerEntry text (s .parameters) r) in
+    withRegisters s table (record { number = registerFault (s .parameters) table (countOf (s .registers)); place = r .place })
+
+-- 6 to 9, then 10 and 12
+unfoldable pub judgeRegister : List ℕ → State → Register → State
+judgeRegister text s r = pick (isFault (registerWritten text s r)) (stopped s (registerWritten text s r)) (addedRegister text s r)

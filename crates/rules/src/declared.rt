@@ -1,0 +1,34 @@
+// Rule 6: one name space for all.
+ghost use mathlib.Core.Path.{_≡_};
+ghost use Rattle.rules.specs.Names.{declaredBefore};
+ghost use Rattle.rules.specs.State.{stateOf};
+use crate::fault;
+use crate::fault::Fault;
+use crate::names;
+
+// The device's name, and the first rule broken, if one is: the state of the judging but for the tables.
+pub struct Judging {
+    pub place: usize,
+    pub extent: usize,
+    pub fault: Fault,
+}
+
+// Rule 6, of a name that is declared at a place.
+pub fn declared_before(
+    text: &[u8],
+    judging: Judging,
+    parameters: &[u32],
+    registers: &[u32],
+    variables: &[u32],
+    place: usize,
+    extent: usize,
+) -> Fault
+    ensures { λ r. ⌜ r ≡ declaredBefore (now (text .entry)) (stateOf judging (now (parameters .entry)) (now (registers .entry)) (now (variables .entry))) place extent ⌝ }
+{
+    let name = names::name_of(text, place, extent);
+    let device = names::stands_at(text, judging.place, judging.extent, name);
+    let parameter = names::is_nothing(names::find(text, parameters, 36, name));
+    let register = names::is_nothing(names::find(text, registers, 15, name));
+    let variable = names::is_nothing(names::find(text, variables, 59, name));
+    fault::fault_if(device | !parameter | !register | !variable, 6, place)
+}
