@@ -6,3 +6,9 @@ pub mod OffsetLaws
 pub mod ListLaws
 pub mod FrameLaws
 pub mod VariableLaws
+pub mod WrittenLaws
+pub mod LoopKeeps
+pub mod AppendLaws
+pub mod ParameterShape
+pub mod RegisterShape
+pub mod Growing

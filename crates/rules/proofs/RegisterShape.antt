@@ -1,0 +1,260 @@
+-- The entry of a register has the shape that refusal 20 wants: each part absent and zero, or with a parameter that is there and masks that fit.
+-- Assumes nothing.
+use Prim.Native.Nat.{ℕ, zero, suc, _+_, _-_, _*_, _/_, _≤_, _<_, _^_}
+use native.Mathlib.Omega.{arith}
+use native.Mathlib.Nat.{min-eq-left, min-le-left}
+use mathlib.Core.Path.{_≡_, refl, sym, ap, ap₂, _∙_}
+use mathlib.Core.Bool.{Bool, true, false, _&&_, _||_, false≢true}
+use mathlib.Core.List.{List, [], _∷_}
+use lib.Dec.{eqb, ltb}
+use lib.Bits.{bitAnd, and-lt}
+use lib.ListN.{length, getD, length-append, List·getD-append}
+use lib.Seq.{getD-append-add}
+use borrow.Author.Tests.{eq-eqb, eqb-true, eqb-false, le-leb, lt-ltb, ltb-true}
+use Rattle.bits.specs.Bits.{bit}
+use Rattle.bits.proofs.BitLaws.{number-lt, bit-number, bits-equal, bit-over}
+use Rattle.bits.proofs.MaskLaws.{bit-and}
+use Rattle.syntax.specs.declared.register.Register.{Register}
+use Rattle.tables.specs.Every.{firstOf}
+use Rattle.tables.specs.Words.{countOf, present, registerAt, registerPart}
+use Rattle.tables.specs.Rules.{registerPartShape, registerShape}
+use Rattle.tables.proofs.ZeroLaws.{zeros-are}
+use Rattle.rules.specs.declared.fault.Fault.{Fault}
+use Rattle.rules.specs.declared.mask.Element.{Element}
+use Rattle.rules.specs.declared.mask.Element.the-variants.{Dot, Fixed, One}
+use Rattle.rules.specs.declared.mask.Mask.{Mask}
+use Rattle.rules.specs.Fault.{faultIf, only, orElse}
+use Rattle.rules.specs.State.{State}
+use Rattle.rules.specs.Words.{wordOf, appended}
+use Rattle.rules.specs.Names.{isNamed, heldOf, foundBelow, foundIn, isNothing, indexOf}
+use Rattle.rules.specs.Mask.{isElement, elements, maskOf}
+use Rattle.rules.specs.Register.{hasPart, portOf, partMask, partEntry, portFound, partWords, registerEntry, unknownPort, registerWritten}
+use Rattle.rules.proofs.AppendLaws.{appended-word}
+
+-- ---- masks
+-- no byte is a dot and fixed; what is 1 is fixed
+dot-apart : (x : ℕ) → (isElement Dot x && isElement Fixed x) ≡ false
+unfolding isElement
+dot-apart x = go (eqb x 46) refl
+  where
+    go : (b : Bool) → eqb x 46 ≡ b → (isElement Dot x && isElement Fixed x) ≡ false
+    go true e = rw (eqb-true x 46 e)
+    go false e = rw e
+
+one-fixed : (x : ℕ) → (isElement One x && isElement Fixed x) ≡ isElement One x
+unfolding isElement
+one-fixed x = go (eqb x 49) refl
+  where
+    go : (b : Bool) → eqb x 49 ≡ b → (isElement One x && isElement Fixed x) ≡ isElement One x
+    go true e = rw (eqb-true x 49 e)
+    go false e = rw e
+
+module _ (mask : List ℕ) where
+  small : (which : Element) → elements mask which < 2 ^ 8
+  unfolding elements
+  small which = number-lt 8 (λ b. isElement which (getD mask (8 - b) 0))
+
+  element-bit : (which : Element) (b : ℕ) → b < 8 → bit b (elements mask which) ≡ isElement which (getD mask (8 - b) 0)
+  unfolding elements
+  element-bit which b l = bit-number 8 (λ c. isElement which (getD mask (8 - c) 0)) b l
+
+  both-bits : (m n : Element) (b : ℕ) → b < 8
+      → bit b (bitAnd (elements mask m) (elements mask n)) ≡ (isElement m (getD mask (8 - b) 0) && isElement n (getD mask (8 - b) 0))
+  both-bits m n b l = bit-and b (elements mask m) (elements mask n) ∙ ap₂ _&&_ (element-bit m b l) (element-bit n b l)
+
+  no-bit : (b : ℕ) → bit b 0 ≡ false
+  no-bit b = bit-over 0 b 0 (omega arith) (omega arith)
+
+  dots-apart : bitAnd (elements mask Dot) (elements mask Fixed) ≡ 0
+  dots-apart =
+      bits-equal 8 _ 0 (and-lt 8 _ _ (small Dot) (small Fixed)) (omega arith)
+      (λ b l. both-bits Dot Fixed b l ∙ dot-apart (getD mask (8 - b) 0) ∙ sym (no-bit b))
+
+  ones-inside : bitAnd (elements mask One) (elements mask Fixed) ≡ elements mask One
+  ones-inside =
+      bits-equal 8 _ _ (and-lt 8 _ _ (small One) (small Fixed)) (small One)
+      (λ b l. both-bits One Fixed b l ∙ one-fixed (getD mask (8 - b) 0) ∙ sym (element-bit One b l))
+
+-- ---- the words of a part, wherever they stand
+module _ (ps t : List ℕ) (at index offset : ℕ) (mask : List ℕ) where
+  abbrev given : List ℕ
+  given = 1 ∷ wordOf index ∷ wordOf offset ∷ maskOf mask .dots ∷ maskOf mask .fixed ∷ maskOf mask .ones ∷ []
+
+  there : ((k : ℕ) → k < 6 → getD t (at + k) 0 ≡ getD given k 0) → index < countOf ps → countOf ps ≤ 16 → registerPartShape ps t at ≡ true
+  unfolding registerPartShape maskOf wordOf
+  there same l few =
+      let first : getD t at 0 ≡ 1 = (let e : at ≡ at + 0 = omega arith in ap (λ (i : ℕ). getD t i 0) e) ∙ same 0 (omega arith) in
+      let port : getD t (at + 1) 0 ≡ index = same 1 (omega arith) ∙ min-eq-left (omega arith) in
+      let dots : getD t (at + 3) 0 ≡ elements mask Dot = same 3 (omega arith) in
+      let fixed : getD t (at + 4) 0 ≡ elements mask Fixed = same 4 (omega arith) in
+      let ones : getD t (at + 5) 0 ≡ elements mask One = same 5 (omega arith) in
+      let d : elements mask Dot ≤ 255 = omega (arith, small mask Dot) in
+      let f : elements mask Fixed ≤ 255 = omega (arith, small mask Fixed) in
+      rw (
+        first,
+        port,
+        dots,
+        fixed,
+        ones,
+        lt-ltb index (countOf ps) l,
+        le-leb (elements mask Dot) 255 d,
+        le-leb (elements mask Fixed) 255 f,
+        dots-apart mask,
+        ones-inside mask,
+        eq-eqb (elements mask One) (elements mask One) refl,
+      )
+
+  absent : ((k : ℕ) → k < 6 → getD t (at + k) 0 ≡ 0) → registerPartShape ps t at ≡ true
+  unfolding registerPartShape
+  absent same =
+      let first : getD t at 0 ≡ 0 = (let e : at ≡ at + 0 = omega arith in ap (λ (i : ℕ). getD t i 0) e) ∙ same 0 (omega arith) in
+      rw (first) (zeros-are t at 6 same)
+
+-- six zeros
+zero-word : (k : ℕ) → _≡_ {A = ℕ} (getD (0 ∷ 0 ∷ 0 ∷ 0 ∷ 0 ∷ 0 ∷ []) k 0) 0
+zero-word zero = refl
+zero-word (suc zero) = refl
+zero-word (suc (suc zero)) = refl
+zero-word (suc (suc (suc zero))) = refl
+zero-word (suc (suc (suc (suc zero)))) = refl
+zero-word (suc (suc (suc (suc (suc zero))))) = refl
+zero-word (suc (suc (suc (suc (suc (suc k)))))) = refl
+
+-- ---- faults that are none
+pub or-none : (a b : Fault) → orElse a b .number ≡ 0 → (a .number ≡ 0) × (b .number ≡ 0)
+unfolding orElse
+or-none a b h = go (eqb (a .number) 0) refl
+  where
+    go : (c : Bool) → eqb (a .number) 0 ≡ c → (a .number ≡ 0) × (b .number ≡ 0)
+    go true e = (eqb-true _ _ e, sym (rw e) ∙ h)
+    go false e = absurd (eqb-false (a .number) 0 e (sym (rw e) ∙ h))
+
+pub if-none : (b : Bool) (number place : ℕ) → (number ≡ 0 → ⊥) → faultIf b number place .number ≡ 0 → b ≡ false
+unfolding faultIf
+if-none true number place n h = absurd (n h)
+if-none false number place n h = refl
+
+only-none : (b : Bool) (f : Fault) → only b f .number ≡ 0 → b ≡ true → f .number ≡ 0
+unfolding only
+only-none true f h e = h
+only-none false f h e = absurd (false≢true e)
+
+-- a name that is found is found below the count
+below : (n i : ℕ) → isNothing (foundBelow n i) ≡ false → indexOf (foundBelow n i) < n
+unfolding foundBelow isNothing indexOf
+below n i h = go (ltb i n) refl
+  where
+    go : (b : Bool) → ltb i n ≡ b → indexOf (foundBelow n i) < n
+    go true e = rw e (ltb-true i n e)
+    go false e = absurd (false≢true (sym h ∙ rw e))
+
+pub found-below : (text table : List ℕ) (stride : ℕ) (name : List ℕ) → isNothing (foundIn text table stride name) ≡ false
+    → indexOf (foundIn text table stride name) < countOf table
+unfolding foundIn heldOf
+found-below text table stride name h =
+    let n = heldOf stride table in
+    let b = below n (firstOf n (λ i. isNamed text table (stride * i + 1) name)) h in
+    omega (arith, min-le-left (countOf table) ((length table - 1) / stride))
+
+-- a part, by whether the register has it
+part-judged : (ps t : List ℕ) (at index offset : ℕ) (mask : List ℕ) (b : Bool)
+    → ((k : ℕ) → k < 6 → getD t (at + k) 0 ≡ getD (partEntry b index offset (maskOf mask)) k 0) → index < countOf ps → countOf ps ≤ 16
+    → (registerPartShape ps t at ≡ true) × (present t at ≡ b)
+unfolding partEntry
+part-judged ps t at index offset mask true same l few =
+    let e : at ≡ at + 0 = omega arith in
+    (there ps t at index offset mask same l few, ap (λ (i : ℕ). present t i) e ∙ ap (λ (w : ℕ). eqb w 1) (same 0 (omega arith)))
+part-judged ps t at index offset mask false same l few =
+    let e : at ≡ at + 0 = omega arith in
+    (absent ps t at index offset mask (λ k m. same k m ∙ zero-word k), ap (λ (i : ℕ). present t i) e ∙ ap (λ (w : ℕ). eqb w 1) (same 0 (omega arith)))
+
+part-long : (b : Bool) (index offset : ℕ) (mask : Mask) → length (partEntry b index offset mask) ≡ 6
+unfolding partEntry
+part-long true index offset mask = refl
+part-long false index offset mask = refl
+
+-- a register has a part
+some-part : (r : Register) → (hasPart r 2 || hasPart r 1) ≡ true
+unfolding hasPart
+some-part r = go (r .two) refl (eqb (r .first .mark) 2) refl
+  where
+    go : (b : Bool) → r .two ≡ b → (c : Bool) → eqb (r .first .mark) 2 ≡ c → (hasPart r 2 || hasPart r 1) ≡ true
+    go true e c g = rw e
+    go false e true g = rw (e, eqb-true (r .first .mark) 2 g)
+    go false e false g = rw (e, g)
+
+module _ (text : List ℕ) (s : State) (r : Register) (none : registerWritten text s r .number ≡ 0) where
+  abbrev ps : List ℕ
+  ps = s .parameters
+
+  abbrev rs : List ℕ
+  rs = s .registers
+
+  abbrev n : ℕ
+  n = countOf rs
+
+  abbrev with-entry : List ℕ
+  with-entry = appended 15 rs (registerEntry text ps r)
+
+  -- 7 is not broken: the ports' names are found
+  ports-known : (isNothing (portFound text ps (r .first)) ≡ false) × (r .two ≡ true → isNothing (portFound text ps (r .second)) ≡ false)
+  unfolding registerWritten unknownPort
+  ports-known =
+      let a = or-none _ _ none .1 in
+      let b = or-none _ _ a in
+      let c = or-none _ _ (b .1) .0 in
+      (if-none _ 7 (r .first .place) (λ e. omega arith) (b .0), λ e. if-none _ 7 (r .second .place) (λ g. omega arith) (only-none (r .two) _ c e))
+
+  port-known : (mark : ℕ) → isNothing (portFound text ps (portOf r mark)) ≡ false
+  unfolding portOf
+  port-known mark = go (r .two) refl (eqb (r .first .mark) mark) refl
+    where
+      go : (b : Bool) → r .two ≡ b → (c : Bool) → eqb (r .first .mark) mark ≡ c → isNothing (portFound text ps (portOf r mark)) ≡ false
+      go true e true g = rw (e, g) (ports-known .0)
+      go true e false g = rw (e, g) (ports-known .1 e)
+      go false e c g = rw e (ports-known .0)
+
+  port-below : (mark : ℕ) → indexOf (portFound text ps (portOf r mark)) < countOf ps
+  unfolding portFound
+  port-below mark = found-below text ps 36 _ (port-known mark)
+
+  abbrev reads : List ℕ
+  reads = partWords text ps r 1 2 (r .masks .read) (r .masks .reading)
+
+  abbrev writes : List ℕ
+  writes = partWords text ps r 2 1 (r .masks .write) (r .masks .writing)
+
+  reads-long : length reads ≡ 6
+  unfolding partWords
+  reads-long = part-long (hasPart r 2) _ _ _
+
+  writes-long : length writes ≡ 6
+  unfolding partWords
+  writes-long = part-long (hasPart r 1) _ _ _
+
+  pub entry-long : length (registerEntry text ps r) ≡ 15
+  unfolding registerEntry
+  entry-long = ap (λ (k : ℕ). suc (suc (suc k))) (length-append reads writes ∙ ap₂ _+_ reads-long writes-long)
+
+  module _ (fits : 15 * n + 16 ≤ length rs) (few : countOf ps ≤ 16) where
+    word : (k : ℕ) → k < 15 → getD with-entry (registerAt n + k) 0 ≡ getD (registerEntry text ps r) k 0
+    word k l = appended-word 15 rs (registerEntry text ps r) (omega (arith, entry-long)) k (omega (arith, entry-long))
+
+    read-word : (k : ℕ) → k < 6 → getD with-entry (registerPart n 0 + k) 0 ≡ getD reads k 0
+    unfolding registerEntry
+    read-word k l =
+        let e : registerPart n 0 + k ≡ registerAt n + suc (suc (suc k)) = omega arith in
+        ap (λ (i : ℕ). getD with-entry i 0) e ∙ word (suc (suc (suc k))) (omega arith) ∙ List·getD-append reads writes 0 k (omega (arith, reads-long))
+
+    write-word : (k : ℕ) → k < 6 → getD with-entry (registerPart n 1 + k) 0 ≡ getD writes k 0
+    unfolding registerEntry
+    write-word k l =
+        let e : registerPart n 1 + k ≡ registerAt n + suc (suc (suc (length reads + k))) = omega (arith, reads-long) in
+        ap (λ (i : ℕ). getD with-entry i 0) e ∙ word (suc (suc (suc (length reads + k)))) (omega (arith, reads-long)) ∙ getD-append-add reads writes k 0
+
+    pub register-shape : registerShape ps with-entry n ≡ true
+    unfolding registerShape partWords partMask
+    register-shape =
+        let a = part-judged ps with-entry (registerPart n 0) _ _ _ (hasPart r 2) read-word (port-below 1) few in
+        let b = part-judged ps with-entry (registerPart n 1) _ _ _ (hasPart r 1) write-word (port-below 2) few in
+        rw (a .0, b .0, a .1, b .1) (some-part r)
