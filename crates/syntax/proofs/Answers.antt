@@ -2,17 +2,18 @@
 -- Assumes nothing.
 use Prim.Native.Nat.{ℕ, _≤_}
 use native.Mathlib.Omega.{arith}
-use mathlib.Core.Path.{_≡_, sym, ap, _∙_, subst}
+use mathlib.Core.Path.{_≡_, refl, sym, ap, _∙_, subst}
 use mathlib.Core.Logic.{_↔_, inl, inr}
 use mathlib.Core.List.{List, []}
-use mathlib.Core.Option.{Option, Option·none-ne-some, Option·some-injective}
+use lib.ListN.{length}
+use mathlib.Core.Option.{Option, none, Option·none-ne-some, Option·some-injective}
 use Rattle.token.specs.declared.Token.{Token}
 use Rattle.token.specs.declared.Token.the-variants.{Name, Word, Number, Bits, Sign, End, Bad}
 use Rattle.token.specs.Kind.{refusedAs}
 use Rattle.syntax.specs.declared.reader.Step.{Step}
 use Rattle.syntax.specs.declared.reader.Step.the-variants.{At, Refused}
 use Rattle.syntax.specs.Sizes.{passedAt, NotBefore, Kept}
-use Rattle.syntax.specs.Claim.{tokenNo, Stops, Passes, Right}
+use Rattle.syntax.specs.Claim.{tokenNo, InLanguage, Stops, Passes, Right}
 use Rattle.syntax.specs.Text.{Declaration, readingWith, listed, reading}
 use Rattle.syntax.proofs.Claims.{ByGrammar, stops-once}
 use Rattle.syntax.proofs.TextFollows.{reading-grammatical}
@@ -70,3 +71,28 @@ module _ (text : List ℕ) where
   unfolding reading
   answers-exactly s =
       (λ e. subst (Right text) e (reading-right listed []), λ r. right-once (reading text .step) s (reading-right listed []) r)
+
+  -- ---- its three cases, one by one
+
+  -- A text reads exactly when its tokens are a text of the published grammar and no size is passed.
+  pub reads-exactly : (reading text .step ≡ At (length text)) ↔ (InLanguage text × (passedAt text ≡ none))
+  unfolding Right
+  reads-exactly = (λ e. let r = answers-exactly (At (length text)) .0 e in (r .1, r .2), λ r. answers-exactly (At (length text)) .1 (refl, r .0, r .1))
+
+  -- Refusals 3 and 4 are given exactly where no text of the grammar goes on, if no size is passed before.
+  pub stops-exactly : (n p : ℕ) → ((reading text .step ≡ Refused n p) × (n ≡ 5 → ⊥)) ↔ (Stops text n p × NotBefore (passedAt text) p)
+  unfolding Right
+  stops-exactly n p = (λ e. by (answers-exactly (Refused n p) .0 (e .0)) (e .1), λ r. (answers-exactly (Refused n p) .1 (inl r), stops-not-five n p (r .0)))
+    where
+      by : Right text (Refused n p) → (n ≡ 5 → ⊥) → Stops text n p × NotBefore (passedAt text) p
+      by (inl r) other = r
+      by (inr r) other = absurd (other (r .is-five))
+
+  -- Refusal 5 is given exactly at the first token that passes a size, if the grammar goes on past it.
+  pub passes-exactly : (p : ℕ) → (reading text .step ≡ Refused 5 p) ↔ Passes text 5 p
+  unfolding Right
+  passes-exactly p = (λ e. by (answers-exactly (Refused 5 p) .0 e), λ r. answers-exactly (Refused 5 p) .1 (inr r))
+    where
+      by : Right text (Refused 5 p) → Passes text 5 p
+      by (inl r) = absurd (stops-not-five 5 p (r .0) refl)
+      by (inr r) = r

@@ -1,4 +1,4 @@
--- Every list of the language without a limit of its own, `(turn)*`: a turn is taken as long as the next token's kind tells one.
+-- Every list of the language, `(turn)*`: a turn is taken as long as the next token's kind tells one.
 use Prim.Native.Nat.{ℕ, zero, suc}
 use mathlib.Core.Bool.{Bool, true, false}
 use mathlib.Core.List.{List}
