@@ -39,6 +39,12 @@ same-rest text i =
     (λ past. drop-of-length-le text {i = min i (length text)} (omega arith) ∙ sym (drop-of-length-le text {i = i} (omega arith)))
     (le-or-lt i (length text))
 
+-- a token stands where the gap before it ends
+pub scan-place : (text : List ℕ) (at : ℕ) → drop (placeOf (scanAt text at .token)) text ≡ drop (gapAt text gap at) text
+scan-place text at =
+    let place = gapAt text gap at in
+    rw (scan-past text at, token-taken (drop place text) (min place (length text)) .0) (same-rest text place)
+
 -- THE LONGEST MATCH, for any text and any place: the token that is found takes the longest slice from its own place that may be a token;
 -- it is the end only where no byte is left, and bad only as refusal 3 says
 pub scan-longest :
