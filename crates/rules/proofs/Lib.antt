@@ -12,3 +12,5 @@ pub mod AppendLaws
 pub mod ParameterShape
 pub mod RegisterShape
 pub mod Growing
+pub mod PastLaws
+pub mod NeedLaws
