@@ -2,7 +2,7 @@
 ghost use mathlib.Core.Path.{_≡_};
 ghost use Prim.Native.Nat.{_≤_, _<_, _^_};
 ghost use Rattle.token.specs.Bytes.{begins};
-ghost use Rattle.rules.specs.Names.{nameOf, Held, standsAt, isNamed, foundIn, variableNamed, isNothing, indexOf};
+ghost use Rattle.rules.specs.Names.{nameOf, Held, standsAt, isNamed, foundIn, isNothing, indexOf};
 use crate::words::least;
 use tables::words::word;
 
@@ -85,13 +85,6 @@ pub fn find(text: &[u8], table: &[u32], stride: usize, name: &[u8]) -> Found
         i += 1;
     }
     Found::Nothing
-}
-
-// A name lookup, over any tables.
-pub fn lookup(text: &[u8], variables: &[u32], name: &[u8]) -> Found
-    ensures { λ r. ⌜ r ≡ variableNamed (now (text .entry)) (now (variables .entry)) (now (name .entry)) ⌝ }
-{
-    find(text, variables, 59, name)
 }
 
 pub fn is_nothing(found: Found) -> bool

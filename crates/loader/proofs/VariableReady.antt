@@ -1,0 +1,220 @@
+-- What the code keeps beside the tables is kept by a variable.
+-- Assumes nothing.
+use Prim.Native.Nat.{ℕ, _+_, _*_, _≤_, _<_}
+use native.Mathlib.Omega.{arith}
+use mathlib.Core.Path.{_≡_, refl, sym, ap, _∙_, subst}
+use mathlib.Core.Bool.{Bool, true, false, _&&_, _||_, not, cond, false≢true}
+use mathlib.Core.Logic.{_⊎_, ⊎-elim, inl, inr}
+use mathlib.Core.List.{List}
+use lib.Dec.{eqb, leb}
+use lib.ListN.{length, replicate}
+use borrow.Author.Tests.{eqb-true, eqb-false, leb-false}
+use Rattle.syntax.specs.declared.variable.Variable.{Variable}
+use Rattle.syntax.specs.Variable.{VariableRead}
+use Rattle.syntax.specs.Text.{Progress, aVariable, counted}
+use Rattle.tables.specs.Every.{every}
+use Rattle.tables.specs.Words.{countOf, variableAt}
+use Rattle.tables.specs.Rules.{variableShape}
+use Rattle.tables.proofs.Laws.{every-more, every-same}
+use Rattle.tables.proofs.SameLaws.{variable-shape-same}
+use Rattle.rules.specs.Fault.{isFault, faultIf, noFault, orElse}
+use Rattle.rules.specs.declared.declared.Judging.{Judging}
+use Rattle.rules.specs.State.{State, stateOf, unlessStopped}
+use Rattle.rules.specs.Lists.{paired, allHave, listFor}
+use Rattle.rules.specs.Variable.{triggers, firstPieces, secondPieces, listOf, earlyFault, nameFault, variablesWith, judgeVariable, MappedUnless}
+use Rattle.loader.specs.Judge.{judge}
+use Rattle.loader.specs.Ready.{Ready}
+use Rattle.loader.proofs.PieceCounts.{WellRead}
+use Rattle.loader.proofs.ShapeLaws.{Listed, pieces-length, pieces-blank, part-shape, entry-length, entry-count, entry-shape, flag-small}
+use Rattle.rules.proofs.VariableLaws.{before-entry}
+use Rattle.loader.proofs.ReadyLaws.{no-number, has-number}
+
+-- the list that gives a part is one of the two, or none
+cond-one : (a b c d : Bool) → eqb (cond a (cond b 1 (cond c 2 (cond d 1 0))) 0) 0 ≡ false
+    → (eqb (cond a (cond b 1 (cond c 2 (cond d 1 0))) 0) 1 || eqb (cond a (cond b 1 (cond c 2 (cond d 1 0))) 0) 2) ≡ true
+cond-one false b c d h = absurd (false≢true (sym h))
+cond-one true true c d h = refl
+cond-one true false true d h = refl
+cond-one true false false true h = refl
+cond-one true false false false h = absurd (false≢true (sym h))
+
+cond-two : (a b c d : Bool) → eqb (cond a (cond b 1 (cond c 2 (cond d 1 0))) 0) 2 ≡ true → c ≡ true
+cond-two false b c d h = absurd (false≢true h)
+cond-two true true c d h = absurd (false≢true h)
+cond-two true false true d h = refl
+cond-two true false false true h = absurd (false≢true h)
+cond-two true false false false h = absurd (false≢true h)
+
+list-some : (rs : List ℕ) (d : Variable) (first : List ℕ) (p : ℕ) → eqb (listFor rs d first p) 0 ≡ false → (eqb (listFor rs d first p) 1 || eqb (listFor rs d first p) 2) ≡ true
+unfolding listFor
+list-some rs d first p = cond-one (paired d) (eqb (d .mark) (p + 1)) (eqb (d .rest .mark) (p + 1)) (eqb (d .mark) 0 && allHave rs p first (d .count))
+
+list-second : (rs : List ℕ) (d : Variable) (first : List ℕ) (p : ℕ) → eqb (listFor rs d first p) 2 ≡ true → d .rest .mark ≡ p + 1
+unfolding listFor
+list-second rs d first p h =
+    eqb-true (d .rest .mark) (p + 1) (cond-two (paired d) (eqb (d .mark) (p + 1)) (eqb (d .rest .mark) (p + 1)) (eqb (d .mark) 0 && allHave rs p first (d .count)) h)
+
+either-some : (a b : Bool) (x y : Bool) → (a && b) ≡ false → (a ≡ false → x ≡ true) → (b ≡ false → y ≡ true) → (x || y) ≡ true
+either-some false b true y h f g = refl
+either-some false b false y h f g = absurd (false≢true (f refl))
+either-some true false true y h f g = refl
+either-some true false false y h f g = g refl
+either-some true true x y h f g = absurd (false≢true (sym h))
+
+-- a fault that is named only where a number is one
+faulted : (n place : ℕ) → faultIf (not (eqb n 0)) n place .number ≡ 0 → n ≡ 0
+unfolding faultIf noFault
+faulted n place h = go (eqb n 0) refl
+  where
+    go : (b : Bool) → eqb n 0 ≡ b → n ≡ 0
+    go true e = eqb-true n 0 e
+    go false e = absurd (eqb-false n 0 e (sym (rw e) ∙ h))
+
+module _ (text : List ℕ) (s : State) (it : VariableRead) where
+  abbrev after : State
+  after = unlessStopped s (judgeVariable text s it)
+
+  -- 11 by the pairing, where it is not broken
+  early-eleven : earlyFault text s it .number ≡ 0 → (eqb (listOf text s it 0) 0 && eqb (listOf text s it 1) 0) ≡ false
+  unfolding earlyFault orElse faultIf
+  early-eleven h = go (eqb (listOf text s it 0) 0 && eqb (listOf text s it 1) 0) refl (eqb (nameFault text s it .number) 0) refl
+    where
+      go : (b : Bool) → (eqb (listOf text s it 0) 0 && eqb (listOf text s it 1) 0) ≡ b → (c : Bool) → eqb (nameFault text s it .number) 0 ≡ c
+          → (eqb (listOf text s it 0) 0 && eqb (listOf text s it 1) 0) ≡ false
+      go false e c g = e
+      go true e true g = let z : _≡_ {A = ℕ} 11 0 = sym (rw (g, e)) ∙ h in absurd (omega arith)
+      go true e false g = absurd (eqb-false (nameFault text s it .number) 0 g (sym (rw g) ∙ h))
+
+  -- a variable that breaks no rule was judged, and entered
+  pub record Entered : Type 0 where
+    pub before : s .fault .number ≡ 0
+    pub table : after .variables ≡ variablesWith text s it
+    pub given : (eqb (listOf text s it 0) 0 && eqb (listOf text s it 1) 0) ≡ false
+
+  pub entered-is : after .fault .number ≡ 0 → Entered
+  unfolding unlessStopped judgeVariable
+  entered-is h = go (isFault (s .fault)) refl (eqb (earlyFault text s it .number) 0) refl
+    where
+      go : (a : Bool) → isFault (s .fault) ≡ a → (b : Bool) → eqb (earlyFault text s it .number) 0 ≡ b → Entered
+      go true e b g = absurd (has-number (s .fault) e (sym (rw e) ∙ h))
+      go false e true g = record { before = no-number (s .fault) e; table = rw (e, g); given = early-eleven (eqb-true (earlyFault text s it .number) 0 g) }
+      go false e false g = absurd (eqb-false (earlyFault text s it .number) 0 g (sym (rw (e, g)) ∙ h))
+
+  -- the list of a part, as its entry wants it
+  module _ (w : WellRead (it .variable)) where
+    first-listed : Listed (it .variable .count) (firstPieces text s it)
+    first-listed =
+        record {
+          some = w .some;
+          few = w .few;
+          long = pieces-length text (s .registers) (it .first) (replicate 24 0) (it .variable .count);
+          blank = pieces-blank text (s .registers) (it .first) (it .variable .count);
+        }
+
+    second-listed : (p : ℕ) → eqb (listOf text s it p) 2 ≡ true → Listed (it .variable .rest .count) (secondPieces text s it)
+    second-listed p h =
+        record {
+          some = ⊎-elim (λ e. absurd (marked p (sym (list-second (s .registers) (it .variable) (firstPieces text s it) p h) ∙ e))) (λ l. l) (w .second);
+          few = w .second-few;
+          long = pieces-length text (s .registers) (it .second) (replicate 24 0) (it .variable .rest .count);
+          blank = pieces-blank text (s .registers) (it .second) (it .variable .rest .count);
+        }
+      where
+        marked : (p : ℕ) → p + 1 ≡ 0 → ⊥
+        marked p e = omega arith
+
+    -- the entry has its shape, and those before it keep theirs
+    entry-shaped : variableAt (countOf (s .variables)) + 59 ≤ length (s .variables) → (eqb (listOf text s it 0) 0 && eqb (listOf text s it 1) 0) ≡ false
+        → variableShape (variablesWith text s it) (countOf (s .variables)) ≡ true
+    unfolding triggers
+    entry-shaped fits given =
+        let d = it .variable in
+        let f = firstPieces text s it in
+        let g = secondPieces text s it in
+        let b = d .rest .behaviours in
+        let r = part-shape d f g (triggers b (b .read)) (listOf text s it 0) (flag-small (leb 1 (b .bare + b .read))) first-listed (second-listed 0) in
+        let q = part-shape d f g (triggers b (b .write)) (listOf text s it 1) (flag-small (leb 1 (b .bare + b .write))) first-listed (second-listed 1) in
+        entry-shape (s .variables) d f g (listOf text s it 0) (listOf text s it 1) fits (r .1) (q .1) (w .kind) (r .0) (q .0)
+        (either-some _ _ (eqb (listOf text s it 0) 1 || eqb (listOf text s it 0) 2) (eqb (listOf text s it 1) 1 || eqb (listOf text s it 1) 2) given
+        (list-some (s .registers) d f 0) (list-some (s .registers) d f 1))
+
+    shapes-more : 59 * countOf (s .variables) + 60 ≤ length (s .variables) → countOf (s .variables) ≤ 127
+        → every (countOf (s .variables)) (variableShape (s .variables)) ≡ true → (eqb (listOf text s it 0) 0 && eqb (listOf text s it 1) 0) ≡ false
+        → every (countOf (variablesWith text s it)) (variableShape (variablesWith text s it)) ≡ true
+    shapes-more fits few shapes given =
+        let vs = s .variables in
+        let n = countOf vs in
+        let vs′ = variablesWith text s it in
+        let same = before-entry vs (it .variable) (firstPieces text s it) (secondPieces text s it) (listOf text s it 0) (listOf text s it 1) in
+        let counted : countOf vs′ ≡ n + 1 = entry-count vs (it .variable) (firstPieces text s it) (secondPieces text s it) (listOf text s it 0) (listOf text s it 1) (omega arith) (omega arith) in
+        let kept : every n (variableShape vs′) ≡ true =
+        sym (every-same n (variableShape vs) (variableShape vs′) (λ v l. variable-shape-same vs vs′ v (λ i a z. same i a (omega arith)))) ∙ shapes in
+        rw (counted, every-more, kept) (entry-shaped (omega arith) given)
+
+  -- only the variables change, and if they do, by the entry
+  pub only-variables : (after .registers ≡ s .registers) × ((after .variables ≡ s .variables) ⊎ (after .variables ≡ variablesWith text s it))
+  unfolding unlessStopped judgeVariable
+  only-variables = go (isFault (s .fault)) refl (eqb (earlyFault text s it .number) 0) refl
+    where
+      go : (a : Bool) → isFault (s .fault) ≡ a → (b : Bool) → eqb (earlyFault text s it .number) 0 ≡ b
+          → (after .registers ≡ s .registers) × ((after .variables ≡ s .variables) ⊎ (after .variables ≡ variablesWith text s it))
+      go true e b g = (rw e, inl (rw e))
+      go false e true g = (rw (e, g), inr (rw (e, g)))
+      go false e false g = (rw (e, g), inl (rw (e, g)))
+
+pub ready-variable : (text : List ℕ) (p : Progress State) (it : VariableRead) (next : ℕ)
+    {bits held pulled bits1 held1 pulled1 bits′ held′ pulled′ bits1′ held1′ pulled1′ : List ℕ} → Ready p bits held pulled bits1 held1 pulled1
+    → leb 128 (p .variables) ≡ false → WellRead (it .variable)
+    → MappedUnless (after text (p .made) it .fault .number) (after text (p .made) it .variables) (countOf (p .made .variables) + 1) bits′ held′ pulled′ bits1′ held1′ pulled1′
+    → Ready (counted (judge text) p (aVariable it) next) bits′ held′ pulled′ bits1′ held1′ pulled1′
+unfolding counted judge
+ready-variable text p it next {bits′ = bits′} {held′ = held′} {pulled′ = pulled′} {bits1′ = bits1′} {held1′ = held1′} {pulled1′ = pulled1′} ready room w mapped =
+    let s = p .made in
+    let vs = s .variables in
+    let only = only-variables text s it in
+    let few : countOf vs ≤ 127 = omega (arith, ready .variables-counted, leb-false 128 (p .variables) room) in
+    let count = entry-count vs (it .variable) (firstPieces text s it) (secondPieces text s it) (listOf text s it 0) (listOf text s it 1) (omega (arith, ready .long)) (omega arith) in
+    let long = entry-length vs (it .variable) (firstPieces text s it) (secondPieces text s it) (listOf text s it 0) (listOf text s it 1) in
+    let most : countOf (after text s it .variables) ≤ p .variables + 1 =
+    ⊎-elim (λ e. let q : countOf (after text s it .variables) ≡ countOf vs = ap countOf e in omega (arith, ready .variables-counted))
+    (λ e. let q : countOf (after text s it .variables) ≡ countOf vs + 1 = ap countOf e ∙ count in omega (arith, ready .variables-counted)) (only .1) in
+    record {
+      registers-counted = rw (only .0) (ready .registers-counted);
+      registers-few = ready .registers-few;
+      variables-counted = most;
+      variables-few = omega (arith, leb-false 128 (p .variables) room);
+      long = ⊎-elim (λ e. rw e (ready .long)) (λ e. rw e (long ∙ ready .long)) (only .1);
+      shaped =
+          λ z. let e = entered-is text s it z in
+          rw (e .table) (shapes-more text s it w (omega (arith, ready .long)) few (ready .shaped (e .before)) (e .given));
+      mapped =
+          λ z. let e = entered-is text s it z in
+          let c : countOf (after text s it .variables) ≡ countOf vs + 1 = ap countOf (e .table) ∙ count in
+          rw c (mapped z);
+    }
+
+-- what judging the variable asks for, and what its answer says of the maps
+module _ (p : Progress State) {bits held pulled bits1 held1 pulled1 : List ℕ} (ready : Ready p bits held pulled bits1 held1 pulled1) where
+  pub judged-asks : (d : Variable) → leb 128 (p .variables) ≡ false → WellRead d
+      → (countOf (p .made .registers) ≤ 64) × ((countOf (p .made .variables) < 32768) × ((d .count ≤ 8) × ((d .rest .count ≤ 8)
+      × ((p .made .fault .number ≡ 0 → every (countOf (p .made .variables)) (variableShape (p .made .variables)) ≡ true)
+      × MappedUnless (p .made .fault .number) (p .made .variables) (countOf (p .made .variables)) bits held pulled bits1 held1 pulled1))))
+  judged-asks d room w = (
+    omega (arith, ready .registers-counted, ready .registers-few),
+    (
+      omega (arith, ready .variables-counted, leb-false 128 (p .variables) room),
+      (
+        w .few,
+        (
+          w .second-few,
+          (ready .shaped, ready .mapped),
+        ),
+      ),
+    ),
+  )
+
+pub mapped-judged : (j : Judging) (ps rs vs : List ℕ) {s : State} (n : ℕ) {bits held pulled bits1 held1 pulled1 : List ℕ} → stateOf j ps rs vs ≡ s
+    → MappedUnless (j .fault .number) vs n bits held pulled bits1 held1 pulled1 → MappedUnless (s .fault .number) (s .variables) n bits held pulled bits1 held1 pulled1
+unfolding stateOf
+mapped-judged j ps rs vs n {bits} {held} {pulled} {bits1} {held1} {pulled1} e m =
+    subst (λ (t : State). MappedUnless (t .fault .number) (t .variables) n bits held pulled bits1 held1 pulled1) e m

@@ -1,0 +1,64 @@
+-- `loader::declarations::register_next` meets its contract.
+use Rattle.loader.proofs.NextSteps.{register-extra, register-stops, register-goes}
+use Rattle.syntax.specs.Text.{taken}
+use borrow.Author.Tests.{le-leb, lt-leb}
+use borrow.Author.Needs.{needs}
+use Rattle.loader.proofs.declarations.register_next.Statement.{statement}
+use Rattle.loader.proofs.declarations.register_next.Tie as tie
+
+extra-word-requires : tie.Need-extra-word-requires
+extra-word-requires c κs = search needs
+
+moved-requires : tie.Need-moved-requires
+moved-requires c κs = search needs
+
+returns : tie.Need-returns
+returns c = register-extra _ _ _ _ _ (le-leb _ _ (c .before .before .if1 .taken)) (c .before .extra-word .ensures) (c .moved .ensures)
+
+register-after-requires : tie.Need-register-after-requires
+register-after-requires c κs = search needs
+
+fixed-after-requires : tie.Need-fixed-after-requires
+fixed-after-requires c κs = search needs
+
+enum-told : tie.Need-enum-told
+enum-told c = search needs
+
+enum-told-2 : tie.Need-enum-told-2
+enum-told-2 c = search needs
+
+moved-requires-2 : tie.Need-moved-requires-2
+moved-requires-2 c κs = search needs
+
+returns-2 : tie.Need-returns-2
+returns-2 c = register-stops _ _ _ _ _ (lt-leb _ _ (c .before .before .before .before .before .if1 .left)) (c .before .before .before .before .register-after .ensures) (c .before .before .before .fixed-after .ensures) (c .before .enum-told2 .given .1) (c .moved2 .ensures)
+
+judge-register-requires : tie.Need-judge-register-requires
+judge-register-requires c κs = search needs
+
+add-t16 : tie.Need-add-t16
+add-t16 c = search needs
+
+same-length : tie.Need-same-length
+same-length c = search needs
+
+returns-3 : tie.Need-returns-3
+returns-3 c = register-goes _ _ _ _ _ (lt-leb _ _ (c .before .before .before .before .before .before .before .before .before .before .if1 .left)) (c .before .before .before .before .before .before .before .before .before .register-after .ensures) (c .before .before .before .before .before .before .before .before .fixed-after .ensures) _ _ (c .before .before .before .before .before .before .enum-told .given .1) (c .before .before .before .judge-register .ensures)
+
+pub register-next-spec : {M : Type 1} → statement M
+register-next-spec =
+    tie.close
+    (tie.spec
+    extra-word-requires
+    moved-requires
+    returns
+    register-after-requires
+    fixed-after-requires
+    enum-told
+    enum-told-2
+    moved-requires-2
+    returns-2
+    judge-register-requires
+    add-t16
+    same-length
+    returns-3)

@@ -1,0 +1,25 @@
+-- Judging what a text declares, declaration by declaration: the device, each parameter, each register and variable, in the text's order.
+use Prim.Native.Nat.{ℕ}
+use mathlib.Core.List.{List}
+use Rattle.syntax.specs.declared.reader.Step.{Step}
+use Rattle.syntax.specs.Text.{Declaration, aDevice, aParameter, aRegister, aVariable, Progress}
+use Rattle.loader.specs.declared.heading.Loading.{Loading}
+use Rattle.rules.specs.State.{State, stateOf, unlessStopped}
+use Rattle.rules.specs.Parameter.{judgeDevice, judgeParameter}
+use Rattle.rules.specs.Register.{judgeRegister}
+use Rattle.rules.specs.Variable.{judgeVariable}
+
+-- the rules of one declaration; after a first fault nothing more is judged
+unfoldable pub judge : List ℕ → State → Declaration → State
+judge text s (aDevice d) = judgeDevice s d
+judge text s (aParameter d) = unlessStopped s (judgeParameter text s d)
+judge text s (aRegister d) = unlessStopped s (judgeRegister text s d)
+judge text s (aVariable d) = unlessStopped s (judgeVariable text s d)
+
+-- how far loading has come, as the code holds it: the counts, the device, the fault and the step by value, the tables lent
+unfoldable pub progressOf : Loading → List ℕ → List ℕ → List ℕ → Progress State
+progressOf l ps rs vs =
+    record { parameters = l .parameters; registers = l .registers; variables = l .variables; made = stateOf (l .judging) ps rs vs; step = l .step }
+
+unfoldable pub movedBy : Loading → Step → Loading
+movedBy l s = record { parameters = l .parameters; registers = l .registers; variables = l .variables; judging = l .judging; step = s }
