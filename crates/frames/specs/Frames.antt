@@ -1,17 +1,39 @@
--- What callers may count on: a number stays small and inside the input; a frame lies inside the input and ends after it began.
-use Prim.Native.Nat.{ℕ, _≤_, _<_}
-use mathlib.Core.Bool.{Bool, true}
-use mathlib.Core.Path.{_≡_}
+-- Several texts in one input: each is a line `text N`, then N bytes, then a newline, which the last text may go without.
+use Prim.Native.Nat.{ℕ, _+_, _-_}
+use Prim.Native.Char.{code}
+use mathlib.Core.Bool.{Bool, true, false, cond, _&&_}
 use mathlib.Core.List.{List}
-use lib.ListN.{length}
+use lib.Dec.{eqb, leb, ltb}
+use lib.ListN.{length, getD, take, drop}
+use Rattle.token.specs.Bytes.{bytes, same}
+use Rattle.script.specs.Words.{lineEnd, wordOf, restOf}
+use Rattle.script.specs.Numbers.{numberOf}
+use Rattle.script.specs.declared.numbers.Number.{Number}
+use Rattle.script.specs.declared.numbers.Number.the-variants as number
+use Rattle.frames.specs.declared.Frame.{Frame}
+use Rattle.frames.specs.declared.Frame.the-variants.{Text, Nothing}
 
-pub record Inside (input : List ℕ) (at value next : ℕ) : Type 0 where
-  pub on : at ≤ next
-  pub kept : at ≤ length input → next ≤ length input
-  pub small : value < 2000000000
+-- how many bytes a line says the text has that it heads
+unfoldable pub headed : List ℕ → Number
+headed line =
+    cond (same (wordOf line) (bytes "text") && eqb (length (wordOf (restOf (restOf line)))) 0) (numberOf (wordOf (restOf line))) number.Nothing
 
-pub record Framed (input : List ℕ) (at : ℕ) (found : Bool) (start end next : ℕ) : Type 0 where
-  pub on : found ≡ true → at < next
-  pub before : found ≡ true → at < length input
-  pub whole : start ≤ end
-  pub inside : end ≤ length input
+-- a line may end here: at a newline, or with the input
+unfoldable pub endsAt : List ℕ → ℕ → Bool
+endsAt input at = elim (ltb at (length input)) [ true ↦ eqb (getD input at 0) (code "\n") | false ↦ true ]
+
+-- the text of so many bytes that starts here, if the input has them all and a line ends behind them
+unfoldable pub enclosed : List ℕ → ℕ → ℕ → Frame
+enclosed input start n = cond (leb (start + n) (length input) && endsAt input (start + n)) (Text start (start + n) (start + n + 1)) Nothing
+
+unfoldable pub framed : List ℕ → ℕ → Number → Frame
+framed input start (number.Is n) = enclosed input start n
+framed input start number.Nothing = Nothing
+
+-- the line at a place, without its newline
+abbrev pub lineAt : List ℕ → ℕ → List ℕ
+lineAt input at = take (lineEnd input at - at) (drop at input)
+
+-- the frame at a place of an input
+unfoldable pub frameAt : List ℕ → ℕ → Frame
+frameAt input at = elim (leb (length input) at) [ true ↦ Nothing | false ↦ framed input (lineEnd input at + 1) (headed (lineAt input at)) ]

@@ -1,117 +1,83 @@
-// Several texts in one input: each is a line `text N`, then N bytes, then a newline.
+// Several texts in one input: each is a line `text N`, then N bytes, then a newline, which the last text may go without.
 ghost use mathlib.Core.Path.{_≡_};
-ghost use mathlib.Core.Bool.{true, false};
-ghost use Prim.Native.Nat.{_≤_, _<_};
 ghost use lib.ListN.{length};
-ghost use Rattle.frames.specs.Frames.{Inside, Framed};
+ghost use Rattle.frames.specs.Frames.{headed, endsAt, enclosed, framed, frameAt};
+use script::Number;
 
-// The value of some decimal digits, and the place after them.
-pub struct Number {
-    pub value: usize,
-    pub next: usize,
+// A text from `start` to `end`, and where the next frame begins.
+pub enum Frame {
+    Text {
+        start: usize,
+        end: usize,
+        next: usize,
+    },
+    Nothing,
 }
 
-// A text from `start` to `end`, and where the next frame begins; or that there is none.
-pub struct Frame {
-    pub found: bool,
-    pub start: usize,
-    pub end: usize,
-    pub next: usize,
-}
-
-fn byte_at(input: &[u8], at: usize) -> u8 {
-    if at < input.len() { input[at] } else { 0 }
-}
-
-// A digit's value, or 10.
-fn digit(b: u8) -> usize
-    ensures { λ r. ⌜ r ≤ 10 ⌝ }
+// How many bytes a line says the text has that it heads.
+fn length_of(line: &[u8]) -> Number
+    ensures { λ r. ⌜ r ≡ headed (now (line .entry)) ⌝ }
 {
-    match b {
-        b'0' => 0,
-        b'1' => 1,
-        b'2' => 2,
-        b'3' => 3,
-        b'4' => 4,
-        b'5' => 5,
-        b'6' => 6,
-        b'7' => 7,
-        b'8' => 8,
-        b'9' => 9,
-        _ => 10,
+    let tail = script::rest(line);
+    let third = script::word(script::rest(tail));
+    if script::is(script::word(line), b"text") & (third.len() == 0) {
+        script::number_of(script::word(tail))
+    } else {
+        Number::Nothing
     }
 }
 
-// The decimal number at a place. It stops at nine digits or so: no frame is that long.
-pub fn number_at(input: &[u8], at: usize) -> Number
-    ensures { λ r. ⌜ Inside (now (input .entry)) at (r .value) (r .next) ⌝ }
+// Whether a line may end here: at a newline, or with the input.
+fn ends_at(input: &[u8], at: usize) -> bool
+    ensures { λ r. ⌜ r ≡ endsAt (now (input .entry)) at ⌝ }
 {
-    let mut value = 0;
-    let mut next = at;
-    while next < input.len() {
-        let d = digit(byte_at(input, next));
-        if 9 < d {
-            return Number { value, next };
+    if at < input.len() {
+        input[at] == b'\n'
+    } else {
+        true
+    }
+}
+
+fn enclose(input: &[u8], start: usize, bytes: usize) -> Frame
+    ensures { λ r. ⌜ r ≡ enclosed (now (input .entry)) start bytes ⌝ }
+{
+    if input.len() < start {
+        return Frame::Nothing;
+    }
+    if input.len() - start < bytes {
+        return Frame::Nothing;
+    }
+    let end = start + bytes;
+    if ends_at(input, end) {
+        Frame::Text {
+            start,
+            end,
+            next: end + 1,
         }
-        if 100000000 < value {
-            return Number { value, next };
-        }
-        value = 10 * value + d;
-        next += 1;
-    }
-    Number { value, next }
-}
-
-// Whether the bytes of the word stand at a place.
-fn stands(input: &[u8], at: usize, word: &[u8; 5]) -> bool
-    requires { ⌜ at ≤ length (now input) ⌝ }
-{
-    (byte_at(input, at) == word[0])
-        & (byte_at(input, at + 1) == word[1])
-        & (byte_at(input, at + 2) == word[2])
-        & (byte_at(input, at + 3) == word[3])
-        & (byte_at(input, at + 4) == word[4])
-}
-
-fn no_frame(input: &[u8], at: usize) -> Frame
-    ensures { λ r. ⌜ Framed (now (input .entry)) at (r .found) (r .start) (r .end) (r .next) ⌝ }
-{
-    Frame {
-        found: false,
-        start: 0,
-        end: 0,
-        next: at,
+    } else {
+        Frame::Nothing
     }
 }
 
-// The frame at a place: it is found where its header stands there and all of its bytes are in the input.
+fn frame_of(input: &[u8], start: usize, bytes: Number) -> Frame
+    ensures { λ r. ⌜ r ≡ framed (now (input .entry)) start bytes ⌝ }
+{
+    match bytes {
+        Number::Is(count) => enclose(input, start, count as usize),
+        Number::Nothing => Frame::Nothing,
+    }
+}
+
+// The frame at a place: it is found where its line stands there and all of its bytes are in the input.
 pub fn frame_at(input: &[u8], at: usize) -> Frame
-    ensures { λ r. ⌜ Framed (now (input .entry)) at (r .found) (r .start) (r .end) (r .next) ⌝ }
+    ensures { λ r. ⌜ r ≡ frameAt (now (input .entry)) at ⌝ }
 {
     if input.len() <= at {
-        return no_frame(input, at);
+        return Frame::Nothing;
     }
-    if input.len() - at < 5 {
-        return no_frame(input, at);
-    }
-    if !stands(input, at, b"text ") {
-        return no_frame(input, at);
-    }
-    let number = number_at(input, at + 5);
-    let start = number.next + 1;
-    if input.len() < start {
-        return no_frame(input, at);
-    }
-    if input.len() - start < number.value {
-        return no_frame(input, at);
-    }
-    let end = start + number.value;
-    Frame {
-        found: true,
-        start,
-        end,
-        next: end + 1,
-    }
+    let end = script::line_end(input, at);
+    let bytes = length_of(&input[at..end]);
+    frame_of(input, end + 1, bytes)
 }
 
 // Room for an input of many texts. The contract hides the array's contents, which nobody asks for.

@@ -1,5 +1,6 @@
 // For each framed text on standard input, a line with its tokens up to the end or a bad one, and a line that says whether it
 // reads, with the counts of parameters, registers and variables, or which refusal stops the reading, and where.
+use frames::Frame;
 use syntax::Step;
 use token::Token;
 
@@ -73,14 +74,12 @@ fn show_all(input: &[u8]) {
     let mut at = 0;
     loop {
         let frame = frames::frame_at(input, at);
-        let found = frame.found;
-        if found {
-            let start = frame.start;
-            let end = frame.end;
-            show_text(&input[start..end]);
-            at = frame.next;
-        } else {
-            return;
+        match frame {
+            Frame::Text { start, end, next } => {
+                show_text(&input[start..end]);
+                at = next;
+            }
+            Frame::Nothing => return,
         }
     }
 }

@@ -1,109 +1,59 @@
+-- `frames::frame_at` meets its contract. Assumes nothing.
+use lib.ListN.{length}
+use Prim.Native.Nat.{_≤_}
 use native.Mathlib.Omega.{arith}
+use mathlib.Core.Path.{_∙_}
+use denote.Ref.{now}
+use borrow.Author.Tests.{le-leb, lt-leb}
+use Rattle.script.proofs.WordLaws.{line-on, line-inside}
+use Rattle.frames.specs.Frames.{frameAt}
 use borrow.Author.Needs.{needs}
 use Rattle.frames.proofs.frame_at.Statement.{statement}
 use Rattle.frames.proofs.frame_at.Tie as tie
-use Rattle.frames.proofs.frame_at.Reads as reads
-use Rattle.frames.proofs.frame_at.Lts as lts
-use Rattle.frames.proofs.no_frame.Reads as no-frame-reads
-use Rattle.frames.proofs.number_at.Reads as number-at-reads
-use Rattle.frames.proofs.stands.Reads as stands-reads
 
--- src/lib.rt:92:9
-no-frame-requires : tie.Need-no-frame-requires
-no-frame-requires c κs = search needs
-
--- src/lib.rt:92:9
 returns : tie.Need-returns
-returns c = search needs
+unfolding frameAt
+returns c = rw (le-leb _ _ (c .if1 .taken), frameAt)
 
--- src/lib.rt:94:8
-sub-if2 : tie.Need-sub-if2
-sub-if2 c = search needs
+line-end-requires : tie.Need-line-end-requires
+line-end-requires c κs = search needs
 
--- src/lib.rt:95:9
-no-frame-requires-2 : tie.Need-no-frame-requires-2
-no-frame-requires-2 c κs = search needs
+sub-length-of : tie.Need-sub-length-of
+sub-length-of c = rw (c .line-end .ensures) (line-on _ _)
 
--- src/lib.rt:95:9
+part-length-of-start : tie.Need-part-length-of-start
+part-length-of-start c = rw (c .line-end .ensures) (line-on _ _)
+
+part-length-of-end : tie.Need-part-length-of-end
+part-length-of-end c =
+    let inside : c .before .before .before .args .at ≤ length (now (c .before .before .before .args .input)) = omega arith in
+    rw (c .line-end .ensures) (line-inside _ _ inside)
+
+length-of-requires : tie.Need-length-of-requires
+length-of-requires c κs = search needs
+
+add-frame-of : tie.Need-add-frame-of
+add-frame-of c =
+    let inside : c .before .before .before .before .before .args .at ≤ length (now (c .before .before .before .before .before .args .input)) = omega arith in
+    record { fits = omega (arith, c .before .before .line-end .ensures, line-inside (now (c .before .before .before .before .before .args .input)) (c .before .before .before .before .before .args .at) inside) }
+
+frame-of-requires : tie.Need-frame-of-requires
+frame-of-requires c κs = search needs
+
 returns-2 : tie.Need-returns-2
-returns-2 c = search needs
-
--- src/lib.rt:97:9
-stands-requires : tie.Need-stands-requires
-stands-requires c κs = search needs
-
--- src/lib.rt:98:9
-no-frame-requires-3 : tie.Need-no-frame-requires-3
-no-frame-requires-3 c κs = search needs
-
--- src/lib.rt:98:9
-returns-3 : tie.Need-returns-3
-returns-3 c = search needs
-
--- src/lib.rt:100:35
-add-number-at : tie.Need-add-number-at
-add-number-at c = search needs
-
--- src/lib.rt:100:9
-number-at-requires : tie.Need-number-at-requires
-number-at-requires c κs = search needs
-
--- src/lib.rt:101:17
-add-start : tie.Need-add-start
-add-start c = omega (arith, c .before .number-at .ensures .kept (omega arith))
-
--- src/lib.rt:103:9
-no-frame-requires-4 : tie.Need-no-frame-requires-4
-no-frame-requires-4 c κs = search needs
-
--- src/lib.rt:103:9
-returns-4 : tie.Need-returns-4
-returns-4 c = search needs
-
--- src/lib.rt:105:8
-sub-if5 : tie.Need-sub-if5
-sub-if5 c = search needs
-
--- src/lib.rt:106:9
-no-frame-requires-5 : tie.Need-no-frame-requires-5
-no-frame-requires-5 c κs = search needs
-
--- src/lib.rt:106:9
-returns-5 : tie.Need-returns-5
-returns-5 c = search needs
-
--- src/lib.rt:108:15
-add-end : tie.Need-add-end
-add-end c = search needs
-
--- src/lib.rt:113:15
-add-t7 : tie.Need-add-t7
-add-t7 c = search needs
-
--- src/lib.rt:88:1
-returns-6 : tie.Need-returns-6
-returns-6 c = search needs
+unfolding frameAt
+returns-2 c = rw (lt-leb _ _ (c .before .before .before .before .if1 .left), frameAt) (c .frame-of .ensures ∙ rw (c .before .length-of .ensures, c .before .before .before .line-end .ensures))
 
 pub frame-at-spec : {M : Type 1} → statement M
 frame-at-spec =
     tie.close
     (tie.spec
-    no-frame-requires
     returns
-    sub-if2
-    no-frame-requires-2
-    returns-2
-    stands-requires
-    no-frame-requires-3
-    returns-3
-    add-number-at
-    number-at-requires
-    add-start
-    no-frame-requires-4
-    returns-4
-    sub-if5
-    no-frame-requires-5
-    returns-5
-    add-end
-    add-t7
-    returns-6)
+    line-end-requires
+    sub-length-of
+    part-length-of-start
+    part-length-of-end
+    length-of-requires
+    add-frame-of
+    frame-of-requires
+    returns-2)

@@ -1,8 +1,9 @@
 -- `tokens::show_all` ends: a frame that is found begins inside the input and ends behind its beginning.
-use borrow.Author.Needs.{needs}
 use native.Mathlib.Omega.{arith}
+use borrow.Author.Needs.{needs}
 use Prim.Native.Nat.{_≤_, _-_}
 use lib.ListN.{length}
+use Rattle.frames.proofs.FrameLaws.{text-within}
 use Rattle.tokens.proofs.show_all.Statement.{statement}
 use Rattle.tokens.proofs.show_all.Tie as tie
 
@@ -18,23 +19,29 @@ loop-holds c = omega arith
 frame-at-requires : tie.Need-frame-at-requires Inv-loop μ-loop
 frame-at-requires c κs = search needs
 
+enum-known-frame : tie.Need-enum-known-frame Inv-loop μ-loop
+enum-known-frame c = search needs
+
 sub-show-text : tie.Need-sub-show-text Inv-loop μ-loop
-sub-show-text c = omega (arith, c .before .frame-at .ensures .whole)
+sub-show-text c = text-within _ _ _ (c .before .before .before .frame-at .ensures) (c .before .frame .given .1) .0
 
 part-show-text-start : tie.Need-part-show-text-start Inv-loop μ-loop
-part-show-text-start c = omega (arith, c .before .frame-at .ensures .whole)
+part-show-text-start c = text-within _ _ _ (c .before .before .before .frame-at .ensures) (c .before .frame .given .1) .0
 
 part-show-text-end : tie.Need-part-show-text-end Inv-loop μ-loop
-part-show-text-end c = omega (arith, c .before .frame-at .ensures .inside)
+part-show-text-end c = text-within _ _ _ (c .before .before .before .frame-at .ensures) (c .before .frame .given .1) .1
 
 show-text-requires : tie.Need-show-text-requires Inv-loop μ-loop
 show-text-requires c κs = search needs
 
 loop-less : tie.Need-loop-less Inv-loop μ-loop
-loop-less c = omega (arith, c .before .before .before .frame-at .ensures .on (c .before .before .if1 .taken), c .before .before .before .frame-at .ensures .before (c .before .before .if1 .taken))
+loop-less c = let h = text-within _ _ _ (c .before .before .before .before .before .frame-at .ensures) (c .before .before .before .frame .given .1) in omega (arith, h .2, h .3)
 
 loop-again : tie.Need-loop-again Inv-loop μ-loop
 loop-again c = omega arith
+
+enum-told : tie.Need-enum-told Inv-loop μ-loop
+enum-told c = search needs
 
 returns : tie.Need-returns Inv-loop μ-loop
 returns c = search needs
@@ -47,10 +54,12 @@ show-all-spec =
     μ-loop
     loop-holds
     frame-at-requires
+    enum-known-frame
     sub-show-text
     part-show-text-start
     part-show-text-end
     show-text-requires
     loop-less
     loop-again
+    enum-told
     returns)
