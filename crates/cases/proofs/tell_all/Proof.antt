@@ -1,0 +1,65 @@
+-- `cases::tell_all` ends: a frame that is found begins inside the input and ends behind its beginning.
+use native.Mathlib.Omega.{arith}
+use borrow.Author.Needs.{needs}
+use Prim.Native.Nat.{_≤_, _-_}
+use lib.ListN.{length}
+use Rattle.frames.proofs.FrameLaws.{text-within}
+use Rattle.cases.proofs.tell_all.Statement.{statement}
+use Rattle.cases.proofs.tell_all.Tie as tie
+
+abbrev Inv-loop : tie.InvT-loop
+Inv-loop input at₀ at = at ≤ at
+
+abbrev μ-loop : tie.MeasureT-loop
+μ-loop input at₀ at = length input - at
+
+loop-holds : tie.Need-loop-holds Inv-loop μ-loop
+loop-holds c = omega arith
+
+frame-at-requires : tie.Need-frame-at-requires Inv-loop μ-loop
+frame-at-requires c κs = search needs
+
+enum-known-frame : tie.Need-enum-known-frame Inv-loop μ-loop
+enum-known-frame c = search needs
+
+sub-tell-of : tie.Need-sub-tell-of Inv-loop μ-loop
+sub-tell-of c = text-within _ _ _ (c .before .before .before .frame-at .ensures) (c .before .frame .given .1) .0
+
+part-tell-of-start : tie.Need-part-tell-of-start Inv-loop μ-loop
+part-tell-of-start c = text-within _ _ _ (c .before .before .before .frame-at .ensures) (c .before .frame .given .1) .0
+
+part-tell-of-end : tie.Need-part-tell-of-end Inv-loop μ-loop
+part-tell-of-end c = text-within _ _ _ (c .before .before .before .frame-at .ensures) (c .before .frame .given .1) .1
+
+tell-of-requires : tie.Need-tell-of-requires Inv-loop μ-loop
+tell-of-requires c κs = search needs
+
+loop-less : tie.Need-loop-less Inv-loop μ-loop
+loop-less c = let h = text-within _ _ _ (c .before .before .before .before .before .frame-at .ensures) (c .before .before .before .frame .given .1) in omega (arith, h .2, h .3)
+
+loop-again : tie.Need-loop-again Inv-loop μ-loop
+loop-again c = omega arith
+
+enum-told : tie.Need-enum-told Inv-loop μ-loop
+enum-told c = search needs
+
+returns : tie.Need-returns Inv-loop μ-loop
+returns c = search needs
+
+pub tell-all-spec : {M : Type 1} → statement M
+tell-all-spec =
+    tie.close
+    (tie.spec
+    Inv-loop
+    μ-loop
+    loop-holds
+    frame-at-requires
+    enum-known-frame
+    sub-tell-of
+    part-tell-of-start
+    part-tell-of-end
+    tell-of-requires
+    loop-less
+    loop-again
+    enum-told
+    returns)

@@ -1,0 +1,23 @@
+// The verdict on each framed text on standard input, a line each. The stored cases and what they must say come from the second implementation.
+use frames::Frame;
+
+// One frame at a time: a frame ends after it began, so the loop does.
+fn tell_all(input: &[u8]) {
+    let mut at = 0;
+    loop {
+        let frame = frames::frame_at(input, at);
+        match frame {
+            Frame::Text { start, end, next } => {
+                verdicts::tell_of(&input[start..end]);
+                at = next;
+            }
+            Frame::Nothing => return,
+        }
+    }
+}
+
+fn main() {
+    let mut buffer = frames::space();
+    let n = io::read_full(0, &mut buffer);
+    tell_all(&buffer[..n]);
+}
