@@ -23,13 +23,14 @@ fn run(program: &str, arguments: &[&str], input: &[u8]) -> (Vec<u8>, bool) {
     (output.stdout, output.status.success())
 }
 
+/// A stored file, by its path in the repository.
+fn stored(path: &str) -> Vec<u8> {
+    let root = Path::new(env!("CARGO_MANIFEST_DIR")).join("../..");
+    fs::read(root.join(path)).unwrap()
+}
+
 fn cases(name: &str) -> Vec<u8> {
-    fs::read(
-        Path::new(env!("CARGO_MANIFEST_DIR"))
-            .join("cases")
-            .join(name),
-    )
-    .unwrap()
+    stored(&format!("rust/second/cases/{name}"))
 }
 
 #[test]
@@ -47,8 +48,8 @@ fn verdict_writes_one_line() {
 #[test]
 fn cases_writes_the_stored_verdicts() {
     let program = env!("CARGO_BIN_EXE_cases");
-    let written = run(program, &[], &cases("texts.framed"));
-    assert!(written == (cases("texts.verdicts"), true));
+    let written = run(program, &[], &stored("crates/cases/stdin"));
+    assert!(written == (stored("crates/cases/stdout"), true));
     assert_eq!(run(program, &[], b""), (Vec::new(), true));
     assert_eq!(run(program, &[], b"text 5\nabc"), (Vec::new(), false));
 }

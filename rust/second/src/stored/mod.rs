@@ -3,6 +3,7 @@
 //! A case that a paper settles carries its answer, and `make_cases` refuses to store anything else.
 //! In a text of such a case `^` stands before the byte that the refusal names.
 
+mod boards;
 mod grammar;
 mod order;
 mod rules;
@@ -33,6 +34,7 @@ pub fn texts() -> Vec<Case> {
     let mut list = reading();
     order::cases(&mut list);
     rules::cases(&mut list);
+    boards::cases(&mut list);
     list.0
 }
 
@@ -82,7 +84,7 @@ fn token_files() -> Vec<StoredFile> {
     ]
 }
 
-/// The stored texts, their verdicts, and their names.
+/// Input and output of the proved program `cases`: the stored texts and their verdicts; and the texts' names.
 fn text_files() -> Result<Vec<StoredFile>, String> {
     let mut framed = Vec::new();
     let mut verdicts = String::new();
@@ -97,8 +99,8 @@ fn text_files() -> Result<Vec<StoredFile>, String> {
         names += &format!("{}\n", case.name);
     }
     Ok(vec![
-        (format!("{HOME}/texts.framed"), framed),
-        (format!("{HOME}/texts.verdicts"), verdicts.into_bytes()),
+        ("crates/cases/stdin".to_string(), framed),
+        ("crates/cases/stdout".to_string(), verdicts.into_bytes()),
         (format!("{HOME}/texts.names"), names.into_bytes()),
     ])
 }
