@@ -7,3 +7,6 @@ pub mod VariableReady
 pub mod NextSteps
 pub mod CountLaws
 pub mod LoadLaws
+pub mod GrowingVariable
+pub mod ReadGrowing
+pub mod Accepted

@@ -29,7 +29,7 @@ use Rattle.loader.specs.Judge.{judge, progressOf}
 use Rattle.loader.specs.Ready.{Ready}
 use Rattle.loader.specs.Load.{lentAs, tablesOf, Sized, beginning, judged, judgedAs, firstUncovered, onceRead, verdictOf, isAccepted, leftBy, isShort, isLong, loaded, laidOver, loadOf}
 use Rattle.loader.proofs.CountLaws.{None, none-parameters}
-use Rattle.loader.proofs.ReadyLaws.{no-number}
+use Rattle.rules.proofs.FaultLaws.{no-number}
 
 -- at the start, tables of zeros
 pub record Blank (ps rs vs : List ℕ) : Type 0 where

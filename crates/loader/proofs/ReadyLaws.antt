@@ -3,13 +3,13 @@
 use Prim.Native.Nat.{ℕ, _+_, _*_, _≤_, min}
 use native.Mathlib.Omega.{arith}
 use native.Mathlib.Nat.{min-le-left}
-use mathlib.Core.Path.{_≡_, refl, sym, ap, _∙_}
-use mathlib.Core.Bool.{Bool, true, false, not, false≢true}
+use mathlib.Core.Path.{_≡_, refl}
+use mathlib.Core.Bool.{Bool, true, false}
 use mathlib.Core.List.{List}
-use lib.Dec.{eqb, leb}
+use lib.Dec.{leb}
 use lib.ListN.{length, getD, set, length-set, List·getD-eq-default}
 use lib.Seq.{getD-set-same}
-use borrow.Author.Tests.{eqb-true, leb-false, leb-true, eq-eqb}
+use borrow.Author.Tests.{leb-false, leb-true}
 use Rattle.syntax.specs.declared.reader.Step.{Step}
 use Rattle.syntax.specs.declared.reader.Step.the-variants.{At, Refused}
 use Rattle.syntax.specs.declared.register.Register.{Register}
@@ -17,11 +17,11 @@ use Rattle.syntax.specs.Reader.{fixedAfter}
 use Rattle.syntax.specs.Register.{registerAfter}
 use Rattle.syntax.specs.Text.{Progress, aRegister, movedTo, counted, taken, extraWord, registerWith}
 use Rattle.tables.specs.Words.{countOf}
-use Rattle.rules.specs.declared.fault.Fault.{Fault}
 use Rattle.rules.specs.Fault.{isFault}
 use Rattle.rules.specs.Words.{wordOf, written, appended}
 use Rattle.rules.specs.State.{State, unlessStopped, stopped, withRegisters}
 use Rattle.rules.specs.Register.{registerWritten, registerEntry, addedRegister, judgeRegister}
+use Rattle.rules.proofs.FaultLaws.{no-number}
 use Rattle.loader.specs.Judge.{judge}
 use Rattle.loader.specs.Ready.{Ready}
 
@@ -38,19 +38,6 @@ count-after stride t words = go (leb 1 (length whole)) refl
     go false e =
         rw (List·getD-eq-default (set whole 0 (min (countOf t + 1) 4294967295)) 0 {n = 0} (omega (arith, length-set whole 0 (min (countOf t + 1) 4294967295), leb-false 1 (length whole) e)))
         (omega arith)
-
--- a fault that is none
-pub no-number : (f : Fault) → isFault f ≡ false → f .number ≡ 0
-unfolding isFault
-no-number f e = eqb-true (f .number) 0 (not-false (eqb (f .number) 0) e)
-  where
-    not-false : (b : Bool) → not b ≡ false → b ≡ true
-    not-false true h = refl
-    not-false false h = absurd (false≢true (sym h))
-
-pub has-number : (f : Fault) → isFault f ≡ true → f .number ≡ 0 → ⊥
-unfolding isFault
-has-number f e h = false≢true (sym (ap not (eq-eqb (f .number) 0 h)) ∙ e)
 
 -- what judging a register changes: only registers, one more at most; and a fault is never lost
 pub record Kept (s t : State) : Type 0 where

@@ -3,12 +3,12 @@
 use Prim.Native.Nat.{ℕ, zero, suc, _+_, _-_, _*_, _≤_, _<_}
 use native.Mathlib.Omega.{arith}
 use native.Mathlib.Nat.{min-eq-left}
-use mathlib.Core.Path.{_≡_, refl, sym, ap, ap₂, _∙_, subst}
+use mathlib.Core.Path.{_≡_, refl, sym, ap, _∙_, subst}
 use mathlib.Core.Bool.{Bool, true, false, _&&_, _||_, cond, false≢true}
-use mathlib.Core.List.{List, [], _∷_, _++_, append-assoc}
+use mathlib.Core.List.{List, _∷_}
 use lib.Dec.{eqb, leb}
-use lib.ListN.{length, getD, set, take, drop, replicate, length-set, getD-replicate, List·getD-append, List·getD-eq-default}
-use lib.Seq.{sets, sets-eq, length-sets, getD-append-add, getD-set-other, getD-set-same, length-take-le}
+use lib.ListN.{length, getD, replicate, length-set, getD-replicate, List·getD-eq-default}
+use lib.Seq.{getD-set-other, getD-set-same}
 use borrow.Author.Tests.{le-leb, leb-true, leb-false}
 use Rattle.syntax.specs.declared.variable.Variable.{Variable}
 use Rattle.tables.specs.Every.{zerosFront, zeros}
@@ -21,29 +21,7 @@ use Rattle.rules.specs.Words.{wordOf, written}
 use Rattle.rules.specs.Lists.{pieceWords, piecesOn, piecesOf, partWords}
 use Rattle.rules.specs.Variable.{flagOf, triggers, headWords, withVariable}
 use Rattle.rules.proofs.FrameLaws.{written-below}
-
--- ---- words that were stored one after the other
-pub length-written : (t : List ℕ) (at : ℕ) (ws : List ℕ) → length (written t at ws) ≡ length t
-unfolding written
-length-written t at ws = length-sets t at ws
-
-pub written-at : (t : List ℕ) (at : ℕ) (ws : List ℕ) (k : ℕ) → at + length ws ≤ length t → k < length ws → getD (written t at ws) (at + k) 0 ≡ getD ws k 0
-unfolding written
-written-at t at ws k fits l =
-    let front : length (take at t) ≡ at = length-take-le at t (omega arith) in
-    let e : at + k ≡ length (take at t) + k = omega arith in
-    ap₂ (λ (s : List ℕ) (i : ℕ). getD s i 0) (sets-eq ws t at fits) e
-    ∙ ap (λ (s : List ℕ). getD s (length (take at t) + k) 0) (append-assoc (take at t) ws (drop (at + length ws) t))
-    ∙ getD-append-add (take at t) (ws ++ drop (at + length ws) t) k 0
-    ∙ List·getD-append ws (drop (at + length ws) t) 0 k l
-
-pub sets-above : (ws t : List ℕ) (at i : ℕ) → at + length ws ≤ i → getD (sets t at ws) i 0 ≡ getD t i 0
-sets-above [] t at i l = refl
-sets-above (a ∷ ws) t at i l = sets-above ws (set t at a) (suc at) i (omega arith) ∙ getD-set-other t at i a 0 (λ e. omega arith)
-
-pub written-above : (t : List ℕ) (at : ℕ) (ws : List ℕ) (i : ℕ) → at + length ws ≤ i → getD (written t at ws) i 0 ≡ getD t i 0
-unfolding written
-written-above t at ws i l = sets-above ws t at i l
+use Rattle.rules.proofs.WrittenLaws.{length-written, written-at, written-above}
 
 -- ---- the pieces of a list: 24 words, zero behind the last piece
 module _ (text rs list : List ℕ) where

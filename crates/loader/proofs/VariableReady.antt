@@ -3,7 +3,7 @@
 use Prim.Native.Nat.{ℕ, _+_, _*_, _≤_, _<_}
 use native.Mathlib.Omega.{arith}
 use mathlib.Core.Path.{_≡_, refl, sym, ap, _∙_, subst}
-use mathlib.Core.Bool.{Bool, true, false, _&&_, _||_, not, cond, false≢true}
+use mathlib.Core.Bool.{Bool, true, false, _&&_, _||_, cond, false≢true}
 use mathlib.Core.Logic.{_⊎_, ⊎-elim, inl, inr}
 use mathlib.Core.List.{List}
 use lib.Dec.{eqb, leb}
@@ -14,20 +14,20 @@ use Rattle.syntax.specs.Variable.{VariableRead}
 use Rattle.syntax.specs.Text.{Progress, aVariable, counted}
 use Rattle.tables.specs.Every.{every}
 use Rattle.tables.specs.Words.{countOf, variableAt}
-use Rattle.tables.specs.Rules.{variableShape}
+use Rattle.tables.specs.Rules.{variablePartShape, variableShape}
 use Rattle.tables.proofs.Laws.{every-more, every-same}
 use Rattle.tables.proofs.SameLaws.{variable-shape-same}
-use Rattle.rules.specs.Fault.{isFault, faultIf, noFault, orElse}
+use Rattle.rules.specs.Fault.{isFault, faultIf, orElse}
 use Rattle.rules.specs.declared.declared.Judging.{Judging}
 use Rattle.rules.specs.State.{State, stateOf, unlessStopped}
-use Rattle.rules.specs.Lists.{paired, allHave, listFor}
+use Rattle.rules.specs.Lists.{paired, allHave, listFor, partWords}
 use Rattle.rules.specs.Variable.{triggers, firstPieces, secondPieces, listOf, earlyFault, nameFault, variablesWith, judgeVariable, MappedUnless}
 use Rattle.loader.specs.Judge.{judge}
 use Rattle.loader.specs.Ready.{Ready}
 use Rattle.loader.proofs.PieceCounts.{WellRead}
 use Rattle.loader.proofs.ShapeLaws.{Listed, pieces-length, pieces-blank, part-shape, entry-length, entry-count, entry-shape, flag-small}
 use Rattle.rules.proofs.VariableLaws.{before-entry}
-use Rattle.loader.proofs.ReadyLaws.{no-number, has-number}
+use Rattle.rules.proofs.FaultLaws.{no-number, has-number}
 
 -- the list that gives a part is one of the two, or none
 cond-one : (a b c d : Bool) → eqb (cond a (cond b 1 (cond c 2 (cond d 1 0))) 0) 0 ≡ false
@@ -61,21 +61,12 @@ either-some true false true y h f g = refl
 either-some true false false y h f g = g refl
 either-some true true x y h f g = absurd (false≢true (sym h))
 
--- a fault that is named only where a number is one
-faulted : (n place : ℕ) → faultIf (not (eqb n 0)) n place .number ≡ 0 → n ≡ 0
-unfolding faultIf noFault
-faulted n place h = go (eqb n 0) refl
-  where
-    go : (b : Bool) → eqb n 0 ≡ b → n ≡ 0
-    go true e = eqb-true n 0 e
-    go false e = absurd (eqb-false n 0 e (sym (rw e) ∙ h))
-
 module _ (text : List ℕ) (s : State) (it : VariableRead) where
   abbrev after : State
   after = unlessStopped s (judgeVariable text s it)
 
   -- 11 by the pairing, where it is not broken
-  early-eleven : earlyFault text s it .number ≡ 0 → (eqb (listOf text s it 0) 0 && eqb (listOf text s it 1) 0) ≡ false
+  pub early-eleven : earlyFault text s it .number ≡ 0 → (eqb (listOf text s it 0) 0 && eqb (listOf text s it 1) 0) ≡ false
   unfolding earlyFault orElse faultIf
   early-eleven h = go (eqb (listOf text s it 0) 0 && eqb (listOf text s it 1) 0) refl (eqb (nameFault text s it .number) 0) refl
     where
@@ -123,18 +114,37 @@ module _ (text : List ℕ) (s : State) (it : VariableRead) where
         marked : (p : ℕ) → p + 1 ≡ 0 → ⊥
         marked p e = omega arith
 
-    -- the entry has its shape, and those before it keep theirs
-    entry-shaped : variableAt (countOf (s .variables)) + 59 ≤ length (s .variables) → (eqb (listOf text s it 0) 0 && eqb (listOf text s it 1) 0) ≡ false
-        → variableShape (variablesWith text s it) (countOf (s .variables)) ≡ true
+    -- its two parts have their shape, each in 27 words
+    abbrev reads : List ℕ
+    reads =
+        partWords (it .variable) (firstPieces text s it) (secondPieces text s it)
+        (triggers (it .variable .rest .behaviours) (it .variable .rest .behaviours .read)) (listOf text s it 0)
+
+    abbrev writes : List ℕ
+    writes =
+        partWords (it .variable) (firstPieces text s it) (secondPieces text s it)
+        (triggers (it .variable .rest .behaviours) (it .variable .rest .behaviours .write)) (listOf text s it 1)
+
+    pub reads-shaped : (variablePartShape reads 0 ≡ true) × (length reads ≡ 27)
     unfolding triggers
+    reads-shaped =
+        part-shape (it .variable) (firstPieces text s it) (secondPieces text s it) _ (listOf text s it 0)
+        (flag-small (leb 1 (it .variable .rest .behaviours .bare + it .variable .rest .behaviours .read))) first-listed (second-listed 0)
+
+    pub writes-shaped : (variablePartShape writes 0 ≡ true) × (length writes ≡ 27)
+    unfolding triggers
+    writes-shaped =
+        part-shape (it .variable) (firstPieces text s it) (secondPieces text s it) _ (listOf text s it 1)
+        (flag-small (leb 1 (it .variable .rest .behaviours .bare + it .variable .rest .behaviours .write))) first-listed (second-listed 1)
+
+    -- the entry has its shape, and those before it keep theirs
+    pub entry-shaped : variableAt (countOf (s .variables)) + 59 ≤ length (s .variables) → (eqb (listOf text s it 0) 0 && eqb (listOf text s it 1) 0) ≡ false
+        → variableShape (variablesWith text s it) (countOf (s .variables)) ≡ true
     entry-shaped fits given =
         let d = it .variable in
         let f = firstPieces text s it in
-        let g = secondPieces text s it in
-        let b = d .rest .behaviours in
-        let r = part-shape d f g (triggers b (b .read)) (listOf text s it 0) (flag-small (leb 1 (b .bare + b .read))) first-listed (second-listed 0) in
-        let q = part-shape d f g (triggers b (b .write)) (listOf text s it 1) (flag-small (leb 1 (b .bare + b .write))) first-listed (second-listed 1) in
-        entry-shape (s .variables) d f g (listOf text s it 0) (listOf text s it 1) fits (r .1) (q .1) (w .kind) (r .0) (q .0)
+        entry-shape (s .variables) d f (secondPieces text s it) (listOf text s it 0) (listOf text s it 1) fits (reads-shaped .1) (writes-shaped .1) (w .kind)
+        (reads-shaped .0) (writes-shaped .0)
         (either-some _ _ (eqb (listOf text s it 0) 1 || eqb (listOf text s it 0) 2) (eqb (listOf text s it 1) 1 || eqb (listOf text s it 1) 2) given
         (list-some (s .registers) d f 0) (list-some (s .registers) d f 1))
 

@@ -3,10 +3,9 @@
 use Prim.Native.Nat.{ℕ, _+_, _*_, _≤_, _<_}
 use native.Mathlib.Omega.{arith}
 use mathlib.Core.Path.{_≡_, refl, sym, ap, _∙_}
-use mathlib.Core.Bool.{Bool, true, false, not, false≢true}
+use mathlib.Core.Bool.{Bool, true, false}
 use mathlib.Core.List.{List}
 use lib.ListN.{length}
-use borrow.Author.Tests.{eqb-true, eq-eqb}
 use Rattle.syntax.specs.declared.register.Register.{Register}
 use Rattle.syntax.specs.Parameter.{ParameterRead}
 use Rattle.tables.specs.Tables.{countOf}
@@ -20,6 +19,7 @@ use Rattle.rules.specs.Names.{declaredBefore}
 use Rattle.rules.specs.Words.{appended}
 use Rattle.rules.specs.Parameter.{parameterEntry, addedParameter, judgeParameter}
 use Rattle.rules.specs.Register.{registerEntry, registerWritten, addedRegister, judgeRegister}
+use Rattle.rules.proofs.FaultLaws.{no-number, has-number}
 use Rattle.rules.proofs.AppendLaws.{length-appended, appended-added}
 use Rattle.rules.proofs.ParameterShape.{Sets}
 use Rattle.rules.proofs.ParameterShape as P
@@ -34,19 +34,6 @@ pub record Growing (p r v : ℕ) (s : State) : Type 0 where
   pub parameters-counted : countOf (s .parameters) ≡ p
   pub registers-counted : countOf (s .registers) ≡ r
   pub variables-counted : countOf (s .variables) ≡ v
-
--- ---- faults that are none
-not-false : {b : Bool} → not b ≡ false → b ≡ true
-not-false {b = true} h = refl
-not-false {b = false} h = absurd (false≢true (sym h))
-
-pub no-number : (f : Fault) → isFault f ≡ false → f .number ≡ 0
-unfolding isFault
-no-number f e = eqb-true (f .number) 0 (not-false e)
-
-pub has-number : (f : Fault) → isFault f ≡ true → f .number ≡ 0 → ⊥
-unfolding isFault
-has-number f e h = false≢true (sym (ap not (eq-eqb (f .number) 0 h)) ∙ e)
 
 parameter-good : (ps : List ℕ) (i : ℕ) → parameterShape ps i ≡ true → parameterFault ps i ≡ 0 → parameterGood ps i ≡ true
 unfolding parameterGood

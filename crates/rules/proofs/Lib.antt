@@ -6,8 +6,8 @@ pub mod OffsetLaws
 pub mod ListLaws
 pub mod FrameLaws
 pub mod VariableLaws
+pub mod FaultLaws
 pub mod WrittenLaws
-pub mod LoopKeeps
 pub mod AppendLaws
 pub mod ParameterShape
 pub mod RegisterShape

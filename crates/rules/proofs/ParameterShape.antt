@@ -18,7 +18,7 @@ use Rattle.tables.specs.Rules.{parameterShape}
 use Rattle.tables.proofs.ZeroLaws.{zeros-are}
 use Rattle.rules.specs.Words.{wordOf, appended}
 use Rattle.rules.specs.Parameter.{parameterEntry}
-use Rattle.rules.proofs.LoopKeeps.{loop-keeps}
+use Rattle.syntax.proofs.LoopSteps.{loop-keeps}
 use Rattle.rules.proofs.AppendLaws.{appended-word}
 
 -- n ranges in a table of 32 words, zero behind them
@@ -70,7 +70,7 @@ module _ (text : List ℕ) where
   ranges-set table s r =
       let one = next-set 0 table s (omega arith) r in
       loop-keeps text (λ l. l .ranges .step) (λ kind. eqb kind 300) (rangeTurn text) (Set 1)
-      (λ l h. next-set (l .ranges .count) (l .table) (seenAt text (l .ranges .step) .past) (h .few) (h .ranged)) (length text) _
+      (λ l e h. next-set (l .ranges .count) (l .table) (seenAt text (l .ranges .step) .past) (h .few) (h .ranged)) (length text) _
       (record { some = one .some; few = one .few; ranged = one .ranged })
 
   set-read : (s : Step) → Set 1 (setAfter text (replicate 32 0) s)

@@ -10,7 +10,7 @@ use lib.Dec.{eqb, ltb}
 use lib.Bits.{bitAnd, and-lt}
 use lib.ListN.{length, getD, length-append, List·getD-append}
 use lib.Seq.{getD-append-add}
-use borrow.Author.Tests.{eq-eqb, eqb-true, eqb-false, le-leb, lt-ltb, ltb-true}
+use borrow.Author.Tests.{eq-eqb, eqb-true, le-leb, lt-ltb, ltb-true}
 use Rattle.bits.specs.Bits.{bit}
 use Rattle.bits.proofs.BitLaws.{number-lt, bit-number, bits-equal, bit-over}
 use Rattle.bits.proofs.MaskLaws.{bit-and}
@@ -19,16 +19,15 @@ use Rattle.tables.specs.Every.{firstOf}
 use Rattle.tables.specs.Words.{countOf, present, registerAt, registerPart}
 use Rattle.tables.specs.Rules.{registerPartShape, registerShape}
 use Rattle.tables.proofs.ZeroLaws.{zeros-are}
-use Rattle.rules.specs.declared.fault.Fault.{Fault}
 use Rattle.rules.specs.declared.mask.Element.{Element}
 use Rattle.rules.specs.declared.mask.Element.the-variants.{Dot, Fixed, One}
 use Rattle.rules.specs.declared.mask.Mask.{Mask}
-use Rattle.rules.specs.Fault.{faultIf, only, orElse}
 use Rattle.rules.specs.State.{State}
 use Rattle.rules.specs.Words.{wordOf, appended}
 use Rattle.rules.specs.Names.{isNamed, heldOf, foundBelow, foundIn, isNothing, indexOf}
 use Rattle.rules.specs.Mask.{isElement, elements, maskOf}
 use Rattle.rules.specs.Register.{hasPart, portOf, partMask, partEntry, portFound, partWords, registerEntry, unknownPort, registerWritten}
+use Rattle.rules.proofs.FaultLaws.{or-none, if-none, only-none}
 use Rattle.rules.proofs.AppendLaws.{appended-word}
 
 -- ---- masks
@@ -119,25 +118,6 @@ zero-word (suc (suc (suc zero))) = refl
 zero-word (suc (suc (suc (suc zero)))) = refl
 zero-word (suc (suc (suc (suc (suc zero))))) = refl
 zero-word (suc (suc (suc (suc (suc (suc k)))))) = refl
-
--- ---- faults that are none
-pub or-none : (a b : Fault) → orElse a b .number ≡ 0 → (a .number ≡ 0) × (b .number ≡ 0)
-unfolding orElse
-or-none a b h = go (eqb (a .number) 0) refl
-  where
-    go : (c : Bool) → eqb (a .number) 0 ≡ c → (a .number ≡ 0) × (b .number ≡ 0)
-    go true e = (eqb-true _ _ e, sym (rw e) ∙ h)
-    go false e = absurd (eqb-false (a .number) 0 e (sym (rw e) ∙ h))
-
-pub if-none : (b : Bool) (number place : ℕ) → (number ≡ 0 → ⊥) → faultIf b number place .number ≡ 0 → b ≡ false
-unfolding faultIf
-if-none true number place n h = absurd (n h)
-if-none false number place n h = refl
-
-only-none : (b : Bool) (f : Fault) → only b f .number ≡ 0 → b ≡ true → f .number ≡ 0
-unfolding only
-only-none true f h e = h
-only-none false f h e = absurd (false≢true e)
 
 -- a name that is found is found below the count
 below : (n i : ℕ) → isNothing (foundBelow n i) ≡ false → indexOf (foundBelow n i) < n

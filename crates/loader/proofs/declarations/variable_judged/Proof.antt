@@ -1,7 +1,7 @@
 -- `loader::declarations::variable_judged` meets its contract.
 use mathlib.Core.Path.{sym, _∙_}
 use Rattle.rules.specs.State.{stateOf, unlessStopped}
-use Rattle.loader.proofs.ReadyLaws.{no-number, has-number}
+use Rattle.rules.proofs.FaultLaws.{no-number, has-number}
 use borrow.Author.Needs.{needs}
 use Rattle.loader.proofs.declarations.variable_judged.Statement.{statement}
 use Rattle.loader.proofs.declarations.variable_judged.Tie as tie

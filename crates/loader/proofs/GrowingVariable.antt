@@ -1,0 +1,85 @@
+-- A variable that breaks no rule makes the tables grow as `Growth` wants it.
+-- Assumes nothing.
+use Prim.Native.Nat.{ℕ, _+_, _≤_, _<_, min}
+use native.Mathlib.Omega.{arith}
+use native.Mathlib.Nat.{min-eq-left, min-eq-right}
+use mathlib.Core.Path.{_≡_, refl, sym, ap, _∙_}
+use mathlib.Core.Bool.{Bool, true, false, cond}
+use mathlib.Core.List.{List}
+use lib.Dec.{eqb, leb}
+use lib.ListN.{length}
+use borrow.Author.Tests.{eqb-true, eqb-false, leb-true, leb-false}
+use Rattle.syntax.specs.Variable.{VariableRead}
+use Rattle.tables.specs.Tables.{countOf, variableAt}
+use Rattle.tables.specs.Rules.{variableFault, variableShape}
+use Rattle.tables.specs.Sound.{variableGood}
+use Rattle.tables.proofs.Growth.{Added, variable-added}
+use Rattle.rules.specs.State.{State}
+use Rattle.rules.specs.Variable.{badBehaviours, lowest, firstPieces, secondPieces, listOf, earlyFault, variablesWith, lateNumber, judgeVariable}
+use Rattle.rules.proofs.VariableLaws.{before-entry, late-none}
+use Rattle.loader.proofs.PieceCounts.{WellRead}
+use Rattle.loader.proofs.ShapeLaws.{entry-length, entry-count, entry-after}
+use Rattle.loader.proofs.VariableReady.{early-eleven, reads-shaped, writes-shaped, entry-shaped}
+use Rattle.rules.proofs.Growing.{Growing}
+
+-- the lower of two numbers of rules is none: so is the first
+lowest-none : (a b : ℕ) → lowest a b ≡ 0 → a ≡ 0
+unfolding lowest
+lowest-none a b h = go (eqb a 0) refl (eqb b 0) refl (leb a b) refl
+  where
+    go : (x : Bool) → eqb a 0 ≡ x → (y : Bool) → eqb b 0 ≡ y → (z : Bool) → leb a b ≡ z → a ≡ 0
+    go true e y f z g = eqb-true a 0 e
+    go false e true f z g = sym (rw (e, f)) ∙ h
+    go false e false f true g = sym (min-eq-left (leb-true a b g)) ∙ sym (rw (e, f)) ∙ h
+    go false e false f false g =
+        let m : min a b ≡ b = min-eq-right (let l = leb-false a b g in omega arith) in
+        let z : b ≡ 0 = sym m ∙ sym (rw (e, f)) ∙ h in
+        absurd (eqb-false b 0 f z)
+
+variable-good : (rs vs : List ℕ) (i : ℕ) → variableShape vs i ≡ true → variableFault rs vs i ≡ 0 → variableGood rs vs i ≡ true
+unfolding variableGood
+variable-good rs vs i s f = rw (s, f)
+
+module _ (text : List ℕ) {p r v : ℕ} (s : State) (d : VariableRead) (g : Growing p r v s) (w : WellRead (d .variable)) (few : v < 128) where
+  abbrev vs : List ℕ
+  vs = s .variables
+
+  abbrev more : List ℕ
+  more = variablesWith text s d
+
+  fits : variableAt (countOf vs) + 59 ≤ length vs
+  fits = omega (arith, g .variables-long, g .variables-counted)
+
+  kept : lateNumber text s d ≡ 0 → variableFault (s .registers) more (countOf vs) ≡ 0
+  unfolding lateNumber
+  kept h = lowest-none _ (cond (badBehaviours (d .variable .rest .behaviours) (listOf text s d 0) (listOf text s d 1)) 13 0) h
+
+  added : Added 59 vs more
+  added =
+      let f = firstPieces text s d in
+      let t = secondPieces text s d in
+      record {
+        count = entry-count vs (d .variable) f t (listOf text s d 0) (listOf text s d 1) (omega (arith, g .variables-long)) (omega (arith, g .variables-counted));
+        before = before-entry vs (d .variable) f t (listOf text s d 0) (listOf text s d 1);
+        after = entry-after vs (d .variable) f t (listOf text s d 0) (listOf text s d 1) (reads-shaped text s d w .1) (writes-shaped text s d w .1);
+      }
+
+  pub grow-variable : judgeVariable text s d .fault .number ≡ 0 → Growing p r (v + 1) (judgeVariable text s d)
+  unfolding judgeVariable
+  grow-variable none = go (eqb (earlyFault text s d .number) 0) refl
+    where
+      go : (b : Bool) → eqb (earlyFault text s d .number) 0 ≡ b → Growing p r (v + 1) (judgeVariable text s d)
+      go false e = absurd (eqb-false (earlyFault text s d .number) 0 e (sym (rw e) ∙ none))
+      go true e =
+          let late : lateNumber text s d ≡ 0 = late-none (d .variable .place) refl (sym (rw e) ∙ none) in
+          let shape = entry-shaped text s d w fits (early-eleven text s d (eqb-true (earlyFault text s d .number) 0 e)) in
+          rw e
+          (record {
+            so-far = variable-added (s .parameters) (s .registers) (g .so-far) added (variable-good (s .registers) more (countOf vs) shape (kept late));
+            parameters-long = g .parameters-long;
+            registers-long = g .registers-long;
+            variables-long = omega (arith, g .variables-long, entry-length vs (d .variable) (firstPieces text s d) (secondPieces text s d) (listOf text s d 0) (listOf text s d 1));
+            parameters-counted = g .parameters-counted;
+            registers-counted = g .registers-counted;
+            variables-counted = added .count ∙ ap (λ (n : ℕ). n + 1) (g .variables-counted);
+          })

@@ -1,0 +1,293 @@
+-- Over a whole text: as long as no rule is broken, the tables count what was read, and each entry is as refusal 20 wants it.
+-- Assumes nothing.
+use Prim.Native.Nat.{ℕ, _+_, _≤_, _<_}
+use native.Mathlib.Omega.{arith}
+use mathlib.Core.Path.{_≡_, refl, sym, ap, _∙_, subst}
+use mathlib.Core.Bool.{Bool, true, false}
+use mathlib.Core.List.{List}
+use lib.Dec.{eqb, leb}
+use lib.ListN.{length, replicate}
+use borrow.Author.Tests.{leb-false}
+use Rattle.token.specs.Kind.{kindOf}
+use Rattle.token.specs.Scan.{scanAt}
+use Rattle.syntax.specs.declared.reader.Step.{Step}
+use Rattle.syntax.specs.declared.reader.Step.the-variants.{At, Refused}
+use Rattle.syntax.specs.declared.reader.Named.{Named}
+use Rattle.syntax.specs.declared.register.Register.{Register}
+use Rattle.syntax.specs.KindNames.{sign, end-kind, 'register', 'variable'}
+use Rattle.syntax.specs.Limits.{mostParameters, mostRegisters, mostVariables}
+use Rattle.syntax.specs.Reader.{seenAt, placeAt, fixedAfter, unexpected}
+use Rattle.syntax.specs.Heading.{headAfter}
+use Rattle.syntax.specs.Parameter.{tooMany, extraName, parameterAfter}
+use Rattle.syntax.specs.Register.{registerAfter}
+use Rattle.syntax.specs.Variable.{VariableRead, variableAfter}
+use Rattle.syntax.specs.Text.{Declaration, aDevice, aParameter, aRegister, aVariable, Progress, begins, extraWord, movedTo, counted, taken, headWith, parameterWith, moreParameters, registerWith, variableWith, declarationWith, moreDeclarations, parametersWith, declarationsWith, readingWith}
+use Rattle.rules.specs.Fault.{isFault}
+use Rattle.rules.specs.State.{State, unlessStopped}
+use Rattle.rules.specs.Parameter.{judgeDevice, judgeParameter}
+use Rattle.rules.specs.Register.{judgeRegister}
+use Rattle.rules.specs.Variable.{judgeVariable}
+use Rattle.loader.specs.Judge.{judge}
+use Rattle.syntax.proofs.LoopSteps.{loop-keeps}
+use Rattle.rules.proofs.ParameterShape.{parameter-sets}
+use Rattle.loader.proofs.PieceCounts.{well-read}
+use Rattle.rules.proofs.FaultLaws.{no-number, has-number}
+use Rattle.rules.proofs.Growing.{Growing, grow-parameter, grow-register}
+use Rattle.loader.proofs.GrowingVariable.{grow-variable}
+
+-- no more is read than there may be; where no rule is broken, the tables have grown with it
+pub record Reached (p : Progress State) : Type 0 where
+  pub few-parameters : p .parameters ≤ 16
+  pub few-registers : p .registers ≤ 64
+  pub few-variables : p .variables ≤ 128
+  pub grown : p .made .fault .number ≡ 0 → Growing (p .parameters) (p .registers) (p .variables) (p .made)
+
+-- parameters all come before the first register
+record Heading (p : Progress State) : Type 0 where
+  reached : Reached p
+  no-register : p .registers ≡ 0
+  no-variable : p .variables ≡ 0
+
+-- a state without a fault was not stopped before
+unstopped : (s next : State) → unlessStopped s next .fault .number ≡ 0 → (s .fault .number ≡ 0) × (unlessStopped s next ≡ next)
+unfolding unlessStopped
+unstopped s next h = go (isFault (s .fault)) refl
+  where
+    go : (b : Bool) → isFault (s .fault) ≡ b → (s .fault .number ≡ 0) × (unlessStopped s next ≡ next)
+    go true e = absurd (has-number (s .fault) e (sym (rw e) ∙ h))
+    go false e = (no-number (s .fault) e, rw e)
+
+-- what an unstopped judging makes of growing tables
+grown-by : {p r v p′ r′ v′ : ℕ} (s next : State) → (s .fault .number ≡ 0 → Growing p r v s)
+    → (Growing p r v s → next .fault .number ≡ 0 → Growing p′ r′ v′ next) → unlessStopped s next .fault .number ≡ 0 → Growing p′ r′ v′ (unlessStopped s next)
+grown-by {p′ = p′} {r′ = r′} {v′ = v′} s next before turn h =
+    let u = unstopped s next h in
+    let z : next .fault .number ≡ 0 = ap (λ (t : State). t .fault .number) (sym (u .1)) ∙ h in
+    subst (λ (t : State). Growing p′ r′ v′ t) (sym (u .1)) (turn (before (u .0)) z)
+
+module _ (text : List ℕ) where
+  moved : (p : Progress State) (s : Step) → Reached p → Reached (movedTo p s)
+  unfolding movedTo
+  moved p s h = record { few-parameters = h .few-parameters; few-registers = h .few-registers; few-variables = h .few-variables; grown = h .grown }
+
+  heading-moved : (p : Progress State) (s : Step) → Heading p → Heading (movedTo p s)
+  unfolding movedTo
+  heading-moved p s h = record { reached = moved p s (h .reached); no-register = h .no-register; no-variable = h .no-variable }
+
+  -- the device only gives its name
+  head-counted : (p : Progress State) (d : Named) (next : ℕ) → Heading p → Heading (counted (judge text) p (aDevice d) next)
+  unfolding counted judge judgeDevice
+  head-counted p d next h =
+      record {
+        reached =
+            record {
+              few-parameters = h .reached .few-parameters;
+              few-registers = h .reached .few-registers;
+              few-variables = h .reached .few-variables;
+              grown = λ z.
+                  let g = h .reached .grown z in
+                  record {
+                    so-far = g .so-far;
+                    parameters-long = g .parameters-long;
+                    registers-long = g .registers-long;
+                    variables-long = g .variables-long;
+                    parameters-counted = g .parameters-counted;
+                    registers-counted = g .registers-counted;
+                    variables-counted = g .variables-counted;
+                  };
+            };
+        no-register = h .no-register;
+        no-variable = h .no-variable;
+      }
+
+  heading-taken : (p : Progress State) (d : Declaration) (s : Step) → Heading p → ((next : ℕ) → Heading (counted (judge text) p d next))
+      → Heading (taken (judge text) p d s)
+  unfolding taken
+  heading-taken p d (At next) h f = f next
+  heading-taken p d (Refused number place) h f = heading-moved p (Refused number place) h
+
+  heading-head : (p : Progress State) → Heading p → Heading (headWith (judge text) text p)
+  unfolding headWith
+  heading-head p h = heading-taken p _ _ h (λ next. head-counted p (headAfter text (p .step)) next h)
+
+  parameter-counted : (p : Progress State) (s : Step) (next : ℕ) → p .parameters < 16 → Heading p
+      → Heading (counted (judge text) p (aParameter (parameterAfter text (replicate 32 0) s)) next)
+  unfolding counted judge
+  parameter-counted p s next few h =
+      let d = parameterAfter text (replicate 32 0) s in
+      record {
+        reached =
+            record {
+              few-parameters = omega arith;
+              few-registers = h .reached .few-registers;
+              few-variables = h .reached .few-variables;
+              grown = grown-by (p .made) (judgeParameter text (p .made) d) (h .reached .grown)
+                  (λ g z. grow-parameter text (p .made) d g (parameter-sets text s) (h .no-register) (h .no-variable) few z);
+            };
+        no-register = h .no-register;
+        no-variable = h .no-variable;
+      }
+
+  heading-parameter : (p : Progress State) → Heading p → Heading (parameterWith (judge text) text p)
+  unfolding parameterWith
+  heading-parameter p h = go (leb mostParameters (p .parameters)) refl
+    where
+      go : (b : Bool) → leb mostParameters (p .parameters) ≡ b → Heading (parameterWith (judge text) text p)
+      go true e = rw e (heading-moved p (extraName text (p .step)) h)
+      go false e = rw e (heading-taken p _ _ h (λ next. parameter-counted p (p .step) next (leb-false mostParameters (p .parameters) e) h))
+
+  heading-parameters : (p : Progress State) → Heading p → Heading (parametersWith (judge text) text p)
+  unfolding parametersWith moreParameters
+  heading-parameters p h =
+      heading-moved _ _
+      (loop-keeps text (λ q. q .step) (λ kind. eqb kind (sign ",")) (λ q. parameterWith (judge text) text (movedTo q (seenAt text (q .step) .past))) Heading
+      (λ q e k. heading-parameter (movedTo q (seenAt text (q .step) .past)) (heading-moved q (seenAt text (q .step) .past) k)) (length text) _
+      (heading-parameter _ (heading-head p h)))
+
+  reached-taken : (p : Progress State) (d : Declaration) (s : Step) → Reached p → ((next : ℕ) → Reached (counted (judge text) p d next))
+      → Reached (taken (judge text) p d s)
+  unfolding taken
+  reached-taken p d (At next) h f = f next
+  reached-taken p d (Refused number place) h f = moved p (Refused number place) h
+
+  register-counted : (p : Progress State) (d : Register) (next : ℕ) → p .registers < 64 → Reached p → Reached (counted (judge text) p (aRegister d) next)
+  unfolding counted judge
+  register-counted p d next few h =
+      record {
+        few-parameters = h .few-parameters;
+        few-registers = omega arith;
+        few-variables = h .few-variables;
+        grown = grown-by (p .made) (judgeRegister text (p .made) d) (h .grown) (λ g z. grow-register text (p .made) d g few (h .few-parameters) z);
+      }
+
+  reached-register : (p : Progress State) → Reached p → Reached (registerWith (judge text) text p)
+  unfolding registerWith
+  reached-register p h = go (leb mostRegisters (p .registers)) refl
+    where
+      go : (b : Bool) → leb mostRegisters (p .registers) ≡ b → Reached (registerWith (judge text) text p)
+      go true e = rw e (moved p (extraWord text 'register' (p .step)) h)
+      go false e = rw e (reached-taken p _ _ h (λ next. register-counted p (registerAfter text (p .step)) next (leb-false mostRegisters (p .registers) e) h))
+
+  variable-counted : (p : Progress State) (s : Step) (next : ℕ) → p .variables < 128 → Reached p
+      → Reached (counted (judge text) p (aVariable (variableAfter text (replicate 40 0) (replicate 40 0) s)) next)
+  unfolding counted judge
+  variable-counted p s next few h =
+      let d = variableAfter text (replicate 40 0) (replicate 40 0) s in
+      record {
+        few-parameters = h .few-parameters;
+        few-registers = h .few-registers;
+        few-variables = omega arith;
+        grown = grown-by (p .made) (judgeVariable text (p .made) d) (h .grown)
+            (λ g z. grow-variable text (p .made) d g (well-read text (replicate 40 0) (replicate 40 0) s) few z);
+      }
+
+  reached-variable : (p : Progress State) → Reached p → Reached (variableWith (judge text) text p)
+  unfolding variableWith
+  reached-variable p h = go (leb mostVariables (p .variables)) refl
+    where
+      go : (b : Bool) → leb mostVariables (p .variables) ≡ b → Reached (variableWith (judge text) text p)
+      go true e = rw e (moved p (extraWord text 'variable' (p .step)) h)
+      go false e = rw e (reached-taken p _ _ h (λ next. variable-counted p (p .step) next (leb-false mostVariables (p .variables) e) h))
+
+  reached-declaration : (p : Progress State) → Reached p → Reached (declarationWith (judge text) text p)
+  unfolding declarationWith
+  reached-declaration p h = go (eqb (seenAt text (p .step) .kind) 'register') refl
+    where
+      go : (b : Bool) → eqb (seenAt text (p .step) .kind) 'register' ≡ b → Reached (declarationWith (judge text) text p)
+      go true e = rw e (reached-register p h)
+      go false e = rw e (reached-variable p h)
+
+  pub reached-declarations : (p : Progress State) → Reached p → Reached (declarationsWith (judge text) text p)
+  unfolding declarationsWith moreDeclarations
+  reached-declarations p h =
+      moved _ _
+      (loop-keeps text (λ q. q .step) begins (declarationWith (judge text) text) Reached (λ q e k. reached-declaration q k) (length text) _
+      (reached-declaration _ (moved p _ h)))
+
+  pub reached-reading : (x : State) → Growing 0 0 0 x → Reached (readingWith (judge text) text x)
+  unfolding readingWith
+  reached-reading x g =
+      moved _ _
+      (reached-declarations _
+      (heading-parameters _
+      (record {
+        reached = record { few-parameters = omega arith; few-registers = omega arith; few-variables = omega arith; grown = λ z. g };
+        no-register = refl;
+        no-variable = refl;
+      }) .reached))
+
+-- ---- something is declared, where the reading goes on
+abbrev pub went : Step → ℕ
+went (At next) = 1
+went (Refused number place) = 0
+
+abbrev pub Some : Progress State → Type 0
+Some p = went (p .step) ≤ p .registers + p .variables
+
+module _ (text : List ℕ) where
+  fixed-went : (kind : ℕ) (s : Step) → went (fixedAfter text kind s) ≤ went s
+  unfolding fixedAfter unexpected
+  fixed-went kind (Refused number place) = omega arith
+  fixed-went kind (At at) = go (eqb (kindOf (scanAt text at .token)) kind) refl
+    where
+      go : (b : Bool) → eqb (kindOf (scanAt text at .token)) kind ≡ b → went (fixedAfter text kind (At at)) ≤ went (At at)
+      go true e = rw e (omega arith)
+      go false e = rw e (omega arith)
+
+  many-went : (place : ℕ) (s : Step) → went (tooMany place s) ≡ 0
+  unfolding tooMany
+  many-went place (At next) = refl
+  many-went place (Refused number at) = refl
+
+  some-extra : (p : Progress State) (kind : ℕ) → Some (movedTo p (extraWord text kind (p .step)))
+  unfolding movedTo extraWord
+  some-extra p kind = omega (arith, many-went (placeAt text (p .step)) (fixedAfter text kind (p .step)))
+
+  some-refused : (p : Progress State) (number place : ℕ) → Some (movedTo p (Refused number place))
+  unfolding movedTo
+  some-refused p number place = omega arith
+
+  register-taken : (p : Progress State) (d : Register) (s : Step) → Some (taken (judge text) p (aRegister d) s)
+  unfolding taken counted
+  register-taken p d (At next) = omega arith
+  register-taken p d (Refused number place) = some-refused p number place
+
+  variable-taken : (p : Progress State) (d : VariableRead) (s : Step) → Some (taken (judge text) p (aVariable d) s)
+  unfolding taken counted
+  variable-taken p d (At next) = omega arith
+  variable-taken p d (Refused number place) = some-refused p number place
+
+  some-register : (p : Progress State) → Some (registerWith (judge text) text p)
+  unfolding registerWith
+  some-register p = go (leb mostRegisters (p .registers)) refl
+    where
+      go : (b : Bool) → leb mostRegisters (p .registers) ≡ b → Some (registerWith (judge text) text p)
+      go true e = rw e (some-extra p 'register')
+      go false e = rw e (register-taken p _ _)
+
+  some-variable : (p : Progress State) → Some (variableWith (judge text) text p)
+  unfolding variableWith
+  some-variable p = go (leb mostVariables (p .variables)) refl
+    where
+      go : (b : Bool) → leb mostVariables (p .variables) ≡ b → Some (variableWith (judge text) text p)
+      go true e = rw e (some-extra p 'variable')
+      go false e = rw e (variable-taken p _ _)
+
+  some-declaration : (p : Progress State) → Some (declarationWith (judge text) text p)
+  unfolding declarationWith
+  some-declaration p = go (eqb (seenAt text (p .step) .kind) 'register') refl
+    where
+      go : (b : Bool) → eqb (seenAt text (p .step) .kind) 'register' ≡ b → Some (declarationWith (judge text) text p)
+      go true e = rw e (some-register p)
+      go false e = rw e (some-variable p)
+
+  some-moved : (p : Progress State) (kind : ℕ) → Some p → Some (movedTo p (fixedAfter text kind (p .step)))
+  unfolding movedTo
+  some-moved p kind h = omega (arith, fixed-went kind (p .step))
+
+  pub some-reading : (x : State) → Some (readingWith (judge text) text x)
+  unfolding readingWith declarationsWith moreDeclarations
+  some-reading x =
+      some-moved _ end-kind
+      (some-moved _ (sign "}")
+      (loop-keeps text (λ q. q .step) begins (declarationWith (judge text) text) Some (λ q e h. some-declaration q) (length text) _ (some-declaration _)))
