@@ -1,0 +1,4 @@
+pub mod WordLaws
+pub mod SmallLaws
+pub mod Telling
+pub mod Meaning

@@ -1,0 +1,88 @@
+-- The numbers of every answer fit a word.
+-- Assumes nothing.
+use Prim.Native.Nat.{ℕ, suc, _<_, _^_}
+use mathlib.Core.Path.{_≡_, refl}
+use mathlib.Core.Bool.{Bool, true, false, _&&_, cond}
+use mathlib.Core.List.{List, [], _∷_}
+use native.Mathlib.Omega.{arith}
+use lib.Dec.{ltb}
+use lib.IntN.{ℤ}
+use lib.ListN.{getD}
+use mir.Syntax.{w32}
+use mir.Val.{Fits}
+use borrow.Author.Tests.{eqb-true, ltb-true}
+use Rattle.tables.specs.declared.Part.{Part}
+use Rattle.tables.specs.declared.Part.the-variants.{Read as reading, Write as writing}
+use Rattle.tables.specs.View.{Tables, sound, variableCount, parameterOf, offsetOf}
+use Rattle.station.specs.declared.Operation.{Operation}
+use Rattle.station.specs.declared.Operation.the-variants.{Idle, Reading, Writing}
+use Rattle.station.specs.Calls.{State, Outcome, Test, refused, unless, isAllowed, isLast, readOn, writeOn, stepsOf, checked, opening, openingTests, beginRead, readTests, beginWrite, writeTests, confirmed, confirm, abandoned, abandon}
+use Rattle.station.proofs.Cases.{and-true, not-false-is}
+use Rattle.station.proofs.Distinct.{at-most-8}
+use Rattle.station.proofs.Refusals.{NoneHolds}
+use Rattle.station.proofs.Underway.{reading-allowed, writing-allowed}
+use Rattle.abi.specs.Told.{Small}
+
+-- the refusals of these tests do
+abbrev smallNumbers : List Test → Bool
+smallNumbers [] = true
+smallNumbers (test ∷ tests) = ltb (test .1) (2 ^ 32) && smallNumbers tests
+
+unless-small : (tests : List Test) (s : State) (o : Outcome) → smallNumbers tests ≡ true → (NoneHolds tests → Small (o .answer)) → Small (unless tests s o .answer)
+unfolding unless
+unless-small [] s o numbers passed = passed tt
+unless-small (test ∷ tests) s o numbers passed =
+    let both = and-true (ltb (test .1) (2 ^ 32)) (smallNumbers tests) numbers in
+    go (test .0) refl (ltb-true _ _ (both .0)) (λ first. unless-small tests s o (both .1) (λ rest. passed (first, rest)))
+  where
+    go : (b : Bool) → test .0 ≡ b → test .1 < 2 ^ 32 → (test .0 ≡ false → Small (unless tests s o .answer)) → Small (cond b (refused (test .1) s) (unless tests s o) .answer)
+    go true e small rest = small
+    go false e small rest = rest e
+
+module _ (t : Tables) (narrow : (i : ℕ) → Fits w32 (getD (t .registers) i 0)) where
+  offer-small : (part : Part) (r : ℕ) → (parameterOf t part r < 2 ^ 32) × (offsetOf t part r < 2 ^ 32)
+  unfolding parameterOf offsetOf
+  offer-small part r = (narrow _ .fits, narrow _ .fits)
+
+  pub opening-small : (power : List ℕ) (s : State) → Small (opening sound t power s .answer)
+  opening-small power s = unless-small (openingTests sound t power s) s _ refl (λ _. tt)
+
+  pub begin-read-small : (s : State) (v : ℕ) → Small (beginRead sound t s v .answer)
+  begin-read-small s v = unless-small (readTests sound t s v) s _ refl (λ _. offer-small reading _)
+
+  pub begin-write-small : (s : State) (v : ℕ) (z : ℤ) → Small (beginWrite sound t s v z .answer)
+  begin-write-small s v z = unless-small (writeTests sound t s v z) s _ refl (λ _. offer-small writing _)
+
+  -- a part has at most 8 registers
+  last-small : (part : Part) (v n : ℕ) → sound t ≡ true → v < variableCount t → isLast t part v n ≡ true → n < 2 ^ 32
+  last-small part v n ok hv last = omega (arith, at-most-8 t part v ok hv, eqb-true n (stepsOf t part v) last)
+
+  read-on-small : (s : State) (v n g : ℕ) (last : Bool) → isLast t reading v n ≡ last → sound t ≡ true → v < variableCount t
+      → Small (readOn last t s v n g .answer)
+  read-on-small s v n g true e ok hv = last-small reading v n ok hv e
+  read-on-small s v n g false e ok hv = offer-small reading _
+
+  write-on-small : (s : State) (v n x : ℕ) (last : Bool) → isLast t writing v n ≡ last → sound t ≡ true → v < variableCount t
+      → Small (writeOn last t s v n x .answer)
+  write-on-small s v n x true e ok hv = last-small writing v n ok hv e
+  write-on-small s v n x false e ok hv = offer-small writing _
+
+  confirmed-small : (s : State) (op : Operation) (byte : ℕ) → sound t ≡ true → isAllowed t op ≡ true → Small (confirmed t s op byte .answer)
+  confirmed-small s Idle byte ok allowed = omega arith
+  confirmed-small s (Reading v step g) byte ok allowed =
+      read-on-small s v (suc step) _ (isLast t reading v (suc step)) refl ok (reading-allowed t v step g allowed .0)
+  confirmed-small s (Writing v step x) byte ok allowed =
+      write-on-small _ v (suc step) x (isLast t writing v (suc step)) refl ok (writing-allowed t v step x allowed .0)
+
+  pub confirm-small : (s : State) (byte : ℕ) → Small (confirm sound t s byte .answer)
+  confirm-small s byte =
+      unless-small (checked sound t s []) s _ refl
+      (λ passed. confirmed-small s (s .operation) byte (not-false-is _ (passed .0)) (not-false-is _ (passed .1 .1 .0)))
+
+  abandoned-small : (s : State) (op : Operation) → Small (abandoned s op .answer)
+  abandoned-small s Idle = omega arith
+  abandoned-small s (Reading v step g) = tt
+  abandoned-small s (Writing v step x) = tt
+
+  pub abandon-small : (s : State) → Small (abandon sound t s .answer)
+  abandon-small s = unless-small (checked sound t s []) s _ refl (λ _. abandoned-small s (s .operation))

@@ -1,0 +1,169 @@
+// The face for Rust and C: the station's calls on numbers and slices alone. specs/Words.antt says how words stand for an operation and an answer,
+// docs/ABI.md how a C caller declares these functions. Each takes its words apart, calls, and puts the answer together.
+//   held       the record: for each register the byte last confirmed as written, at first the power-on byte
+//   marks      for each variable 0, or 1 where an abandoned write left it half-written
+//   operation  four words: the operation in hand
+//   answer     five words: the call's answer
+// Nothing is written past a slice's end. The number returned is the refusal's, and 0 where there is none.
+ghost use mathlib.Core.Path.{_≡_};
+ghost use mathlib.Core.Bool.{cond};
+ghost use Rattle.tables.specs.View.{sound};
+ghost use Rattle.station.specs.Standing.{tablesOf};
+ghost use Rattle.station.specs.Calls.{opening, beginRead, beginWrite, confirm, abandon};
+ghost use Rattle.station.specs.Promise.{lent};
+ghost use Rattle.abi.specs.Words.{operationOf};
+ghost use Rattle.abi.specs.Told.{Tells};
+
+pub mod words;
+
+// 1 where the tables are sound, so that no call refuses them by 20, and 0 where they are not.
+#[no_mangle]
+pub extern "C" fn desfanuk_sound(parameters: &[u32], registers: &[u32], variables: &[u32]) -> u32
+    ensures { λ r. ⌜ r ≡ cond (sound (tablesOf (now (parameters .entry)) (now (registers .entry)) (now (variables .entry)))) 1 0 ⌝ }
+{
+    tables::words::pick(tables::whole::sound(parameters, registers, variables), 1, 0)
+}
+
+#[no_mangle]
+pub extern "C" fn desfanuk_open(
+    parameters: &[u32],
+    registers: &[u32],
+    variables: &[u32],
+    power: &[u8],
+    held: &mut [u8],
+    marks: &mut [u8],
+    operation: &mut [u64],
+    answer: &mut [i64],
+) -> u64
+    ensures { λ r. ⌜ Tells
+        (opening sound
+        (tablesOf (now (parameters .entry)) (now (registers .entry)) (now (variables .entry)))
+        (now (power .entry))
+        (lent (now (held .entry)) (now (marks .entry)) (operationOf (now (operation .entry)))))
+        (now (operation .entry)) (now (answer .entry))
+        (now (held .exit)) (now (marks .exit)) (now (operation .exit)) (now (answer .exit)) r ⌝ }
+{
+    let in_hand = words::operation_of(operation);
+    let outcome = station::open(
+        parameters,
+        registers,
+        variables,
+        power,
+        held,
+        marks,
+        in_hand,
+    );
+    words::tell(outcome, operation, answer)
+}
+
+#[no_mangle]
+pub extern "C" fn desfanuk_begin_read(
+    parameters: &[u32],
+    registers: &[u32],
+    variables: &[u32],
+    held: &[u8],
+    marks: &[u8],
+    operation: &mut [u64],
+    variable: usize,
+    answer: &mut [i64],
+) -> u64
+    ensures { λ r. ⌜ Tells
+        (beginRead sound
+        (tablesOf (now (parameters .entry)) (now (registers .entry)) (now (variables .entry)))
+        (lent (now (held .entry)) (now (marks .entry)) (operationOf (now (operation .entry))))
+        variable)
+        (now (operation .entry)) (now (answer .entry))
+        (now (held .entry)) (now (marks .entry)) (now (operation .exit)) (now (answer .exit)) r ⌝ }
+{
+    let in_hand = words::operation_of(operation);
+    let outcome = station::begin_read(
+        parameters,
+        registers,
+        variables,
+        held,
+        marks,
+        in_hand,
+        variable,
+    );
+    words::tell(outcome, operation, answer)
+}
+
+#[no_mangle]
+pub extern "C" fn desfanuk_begin_write(
+    parameters: &[u32],
+    registers: &[u32],
+    variables: &[u32],
+    held: &[u8],
+    marks: &[u8],
+    operation: &mut [u64],
+    variable: usize,
+    value: i64,
+    answer: &mut [i64],
+) -> u64
+    ensures { λ r. ⌜ Tells
+        (beginWrite sound
+        (tablesOf (now (parameters .entry)) (now (registers .entry)) (now (variables .entry)))
+        (lent (now (held .entry)) (now (marks .entry)) (operationOf (now (operation .entry))))
+        variable value)
+        (now (operation .entry)) (now (answer .entry))
+        (now (held .entry)) (now (marks .entry)) (now (operation .exit)) (now (answer .exit)) r ⌝ }
+{
+    let in_hand = words::operation_of(operation);
+    let outcome = station::begin_write(
+        parameters,
+        registers,
+        variables,
+        held,
+        marks,
+        in_hand,
+        variable,
+        value,
+    );
+    words::tell(outcome, operation, answer)
+}
+
+#[no_mangle]
+pub extern "C" fn desfanuk_confirm(
+    parameters: &[u32],
+    registers: &[u32],
+    variables: &[u32],
+    held: &mut [u8],
+    marks: &mut [u8],
+    operation: &mut [u64],
+    byte: u8,
+    answer: &mut [i64],
+) -> u64
+    ensures { λ r. ⌜ Tells
+        (confirm sound
+        (tablesOf (now (parameters .entry)) (now (registers .entry)) (now (variables .entry)))
+        (lent (now (held .entry)) (now (marks .entry)) (operationOf (now (operation .entry))))
+        byte)
+        (now (operation .entry)) (now (answer .entry))
+        (now (held .exit)) (now (marks .exit)) (now (operation .exit)) (now (answer .exit)) r ⌝ }
+{
+    let in_hand = words::operation_of(operation);
+    let outcome = station::confirm(parameters, registers, variables, held, marks, in_hand, byte);
+    words::tell(outcome, operation, answer)
+}
+
+#[no_mangle]
+pub extern "C" fn desfanuk_abandon(
+    parameters: &[u32],
+    registers: &[u32],
+    variables: &[u32],
+    held: &[u8],
+    marks: &mut [u8],
+    operation: &mut [u64],
+    answer: &mut [i64],
+) -> u64
+    ensures { λ r. ⌜ Tells
+        (abandon sound
+        (tablesOf (now (parameters .entry)) (now (registers .entry)) (now (variables .entry)))
+        (lent (now (held .entry)) (now (marks .entry)) (operationOf (now (operation .entry)))))
+        (now (operation .entry)) (now (answer .entry))
+        (now (held .entry)) (now (marks .exit)) (now (operation .exit)) (now (answer .exit)) r ⌝ }
+{
+    let in_hand = words::operation_of(operation);
+    let outcome = station::abandon(parameters, registers, variables, held, marks, in_hand);
+    words::tell(outcome, operation, answer)
+}
