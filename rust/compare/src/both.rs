@@ -1,0 +1,144 @@
+//! One station over the same tables in both implementations: every call is made in each, and
+//! whatever it answers and leaves must be the same.
+
+use second::generate::{Random, TableSet};
+use second::replay::Call;
+use second::{Answer, Operation, Tables};
+
+use crate::proved::{self, ANSWER_WORDS, OPERATION_WORDS};
+
+/// Words behind those that a call may write.
+const GUARD: usize = 3;
+
+/// The three tables of a set, lent.
+pub fn lent(set: &TableSet) -> Tables<'_> {
+    Tables {
+        parameters: &set.parameters,
+        registers: &set.registers,
+        variables: &set.variables,
+    }
+}
+
+/// A record, marks, and how much of each is lent.
+pub struct Both {
+    pub tables: TableSet,
+    record: Vec<u8>,
+    marks: Vec<u8>,
+    operation: Operation,
+    proved_record: Vec<u8>,
+    proved_marks: Vec<u8>,
+    proved_operation: Vec<u64>,
+    lent_record: usize,
+    lent_marks: usize,
+}
+
+impl Both {
+    /// A station with a record and marks of these lengths. They hold anything at first, as what
+    /// lies behind the operation's words does.
+    pub fn new(random: &mut Random, tables: TableSet, record: usize, marks: usize) -> Both {
+        let record: Vec<u8> = (0..record).map(|_| random.byte()).collect();
+        let marks: Vec<u8> = (0..marks).map(|_| random.byte() % 3).collect();
+        let mut proved_operation = vec![0; OPERATION_WORDS];
+        proved_operation.extend((0..GUARD).map(|_| random.number()));
+        Both {
+            tables,
+            lent_record: record.len(),
+            lent_marks: marks.len(),
+            proved_record: record.clone(),
+            proved_marks: marks.clone(),
+            record,
+            marks,
+            operation: Operation::Idle,
+            proved_operation,
+        }
+    }
+
+    pub fn operation(&self) -> Operation {
+        self.operation
+    }
+
+    /// Makes a call of the station in both and gives its answer; the other lines of a script give
+    /// none.
+    pub fn perform(&mut self, call: &Call) -> Option<Answer> {
+        match call {
+            Call::LendRecord(count) => {
+                self.lent_record = count.unwrap_or(usize::MAX).min(self.record.len());
+                None
+            }
+            Call::LendMarks(count) => {
+                self.lent_marks = count.unwrap_or(usize::MAX).min(self.marks.len());
+                None
+            }
+            Call::Hold(operation) => {
+                self.operation = *operation;
+                self.proved_operation[..OPERATION_WORDS]
+                    .copy_from_slice(&proved::operation_words(*operation));
+                None
+            }
+            Call::Lookup(_) | Call::State => None,
+            _ => Some(self.station_call(call)),
+        }
+    }
+
+    fn station_call(&mut self, call: &Call) -> Answer {
+        let (record, marks) = (self.record.clone(), self.marks.clone());
+        let words = self.proved_operation.clone();
+        let want = self.second_call(call);
+        let got = self.proved_call(call);
+        assert_eq!(got, want, "{call}");
+        assert_eq!(self.proved_record, self.record, "record after {call}");
+        assert_eq!(self.proved_marks, self.marks, "marks after {call}");
+        let mut left = words.clone();
+        if let Answer::Refused(_) = want {
+            assert_eq!((&self.record, &self.marks), (&record, &marks), "{call}");
+        } else {
+            left[..OPERATION_WORDS].copy_from_slice(&proved::operation_words(self.operation));
+        }
+        assert_eq!(self.proved_operation, left, "operation after {call}");
+        want
+    }
+
+    fn second_call(&mut self, call: &Call) -> Answer {
+        let tables = lent(&self.tables);
+        let record = &mut self.record[..self.lent_record];
+        let marks = &mut self.marks[..self.lent_marks];
+        let operation = &mut self.operation;
+        match call {
+            Call::Open(bytes) => second::open(tables, bytes, record, marks, operation),
+            Call::Read(v) => second::begin_read(tables, record, marks, operation, *v),
+            Call::Write(v, value) => {
+                second::begin_write(tables, record, marks, operation, *v, *value)
+            }
+            Call::Confirm(byte) => second::confirm(tables, record, marks, operation, *byte),
+            _ => second::abandon(tables, record, marks, operation),
+        }
+    }
+
+    fn proved_call(&mut self, call: &Call) -> Answer {
+        let tables = lent(&self.tables);
+        let record = &mut self.proved_record[..self.lent_record];
+        let marks = &mut self.proved_marks[..self.lent_marks];
+        let operation = &mut self.proved_operation[..];
+        let mut words = [-77; ANSWER_WORDS + GUARD];
+        let number = match call {
+            Call::Open(bytes) => proved::open(tables, bytes, record, marks, operation, &mut words),
+            Call::Read(v) => proved::begin_read(tables, record, marks, operation, *v, &mut words),
+            Call::Write(v, value) => {
+                proved::begin_write(tables, record, marks, operation, *v, *value, &mut words)
+            }
+            Call::Confirm(byte) => {
+                proved::confirm(tables, record, marks, operation, *byte, &mut words)
+            }
+            _ => proved::abandon(tables, record, marks, operation, &mut words),
+        };
+        let (answer, guard) = words.split_at(ANSWER_WORDS);
+        assert_eq!(guard, [-77; GUARD], "words behind the answer of {call}");
+        let answer = proved::answer_of(answer.try_into().expect("its length"));
+        let refusal = match answer {
+            Answer::Refused(number) => u64::from(number),
+            _ => 0,
+        };
+        assert_eq!(number, refusal, "the number returned by {call}");
+        answer
+    }
+}

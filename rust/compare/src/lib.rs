@@ -1,0 +1,6 @@
+//! The proved implementation, linked from its archive, and what holds it against the second one.
+
+pub mod both;
+pub mod proved;
+pub mod seen;
+pub mod station;
