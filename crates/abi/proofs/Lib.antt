@@ -2,3 +2,4 @@ pub mod WordLaws
 pub mod SmallLaws
 pub mod Telling
 pub mod Meaning
+pub mod LoadingLaws

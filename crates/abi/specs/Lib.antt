@@ -1,2 +1,3 @@
 pub mod Words
 pub mod Told
+pub mod Loading

@@ -1,5 +1,5 @@
-// The face for Rust and C: the station's calls on numbers and slices alone. specs/Words.antt says how words stand for an operation and an answer,
-// docs/ABI.md how a C caller declares these functions. Each takes its words apart, calls, and puts the answer together.
+// The face for Rust and C: loading, and the station's calls, on numbers and slices alone. specs/Words.antt says how words stand for an operation and an
+// answer, specs/Loading.antt for a verdict. Each function takes its words apart, calls, and puts the answer together.
 //   held       the record: for each register the byte last confirmed as written, at first the power-on byte
 //   marks      for each variable 0, or 1 where an abandoned write left it half-written
 //   operation  four words: the operation in hand
@@ -13,8 +13,42 @@ ghost use Rattle.station.specs.Calls.{opening, beginRead, beginWrite, confirm, 
 ghost use Rattle.station.specs.Promise.{lent};
 ghost use Rattle.abi.specs.Words.{operationOf};
 ghost use Rattle.abi.specs.Told.{Tells};
+ghost use Rattle.rules.specs.Names.{variableNamed};
+ghost use Rattle.loader.specs.Load.{lentAs, loadOf};
+ghost use Rattle.abi.specs.Loading.{TellsLoaded, foundWord};
 
+pub mod loading;
 pub mod words;
+
+// ---- loading
+
+// Loads a description. Four words of `answer` take the verdict.
+#[no_mangle]
+pub extern "C" fn desfanuk_load(
+    text: &[u8],
+    parameters: &mut [u32],
+    registers: &mut [u32],
+    variables: &mut [u32],
+    answer: &mut [u64],
+) -> u32
+    ensures { λ r. ⌜ TellsLoaded
+        (loadOf (now (text .entry)) (lentAs (now (parameters .entry)) (now (registers .entry)) (now (variables .entry))))
+        (now (answer .entry))
+        (now (parameters .exit)) (now (registers .exit)) (now (variables .exit)) (now (answer .exit)) r ⌝ }
+{
+    let verdict = loader::load(text, parameters, registers, variables);
+    loading::tell_verdict(verdict, answer)
+}
+
+// The variable of this name, or -1.
+#[no_mangle]
+pub extern "C" fn desfanuk_lookup(text: &[u8], variables: &[u32], name: &[u8]) -> i64
+    ensures { λ r. ⌜ r ≡ foundWord (variableNamed (now (text .entry)) (now (variables .entry)) (now (name .entry))) ⌝ }
+{
+    loading::found_word(loader::lookup(text, variables, name))
+}
+
+// ---- the station
 
 // 1 where the tables are sound, so that no call refuses them by 20, and 0 where they are not.
 #[no_mangle]

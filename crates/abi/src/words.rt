@@ -79,30 +79,31 @@ fn put(words: &mut [u64], at: usize, word: u64)
     }
 }
 
-fn put_operation(words: &mut [u64], kind: u64, variable: usize, step: usize, bits: usize)
-    ensures { λ _. ⌜ now (words .exit) ≡ written (kind ∷ variable ∷ step ∷ bits ∷ []) (now (words .entry)) ⌝ }
+// Four words: an operation, or a verdict.
+pub fn put_four(words: &mut [u64], kind: u64, first: usize, second: usize, third: usize)
+    ensures { λ _. ⌜ now (words .exit) ≡ written (kind ∷ first ∷ second ∷ third ∷ []) (now (words .entry)) ⌝ }
 {
     put(words, 0, kind);
-    put(words, 1, variable as u64);
-    put(words, 2, step as u64);
-    put(words, 3, bits as u64);
+    put(words, 1, first as u64);
+    put(words, 2, second as u64);
+    put(words, 3, third as u64);
 }
 
 fn tell_operation(operation: Operation, words: &mut [u64])
     ensures { λ _. ⌜ now (words .exit) ≡ written (operationWords operation) (now (words .entry)) ⌝ }
 {
     match operation {
-        Operation::Idle => put_operation(words, 0, 0, 0, 0),
+        Operation::Idle => put_four(words, 0, 0, 0, 0),
         Operation::Reading {
             variable,
             step,
             gathered,
-        } => put_operation(words, 1, variable, step, gathered),
+        } => put_four(words, 1, variable, step, gathered),
         Operation::Writing {
             variable,
             step,
             value,
-        } => put_operation(words, 2, variable, step, value),
+        } => put_four(words, 2, variable, step, value),
     }
 }
 
@@ -127,7 +128,7 @@ fn put_answer(words: &mut [i64], kind: i64, first: i64, second: i64, third: i64,
 }
 
 // A number of the station's as a word of an answer.
-fn signed(number: usize) -> i64
+pub fn signed(number: usize) -> i64
     requires { ⌜ number < 2 ^ 32 ⌝ }
     ensures { λ r. ⌜ r ≡ pos number ⌝ }
 {

@@ -1,11 +1,11 @@
--- `abi::words::put_operation` meets its contract: four stores, one law.
+-- `abi::words::put_four` meets its contract: four stores, one law.
 use mathlib.Core.Path.{refl}
 use denote.Ref.{now}
 use mathlib.Core.List.{[], _∷_}
 use Rattle.abi.proofs.WordLaws.{written-none, written-more}
 use borrow.Author.Needs.{needs}
-use Rattle.abi.proofs.words.put_operation.Statement.{statement}
-use Rattle.abi.proofs.words.put_operation.Tie as tie
+use Rattle.abi.proofs.words.put_four.Statement.{statement}
+use Rattle.abi.proofs.words.put_four.Tie as tie
 
 put-requires : tie.Need-put-requires
 put-requires c κs = search needs
@@ -28,10 +28,10 @@ returns c =
     let a = c .before .before .before .before .before .before .before .before .before .before .before .before .before .before .before .before .before .args in
     let one = written-more lent [] (written-none lent) (c .before .before .before .before .before .before .before .before .before .before .before .before .before .before .put .ensures) refl in
     let two = written-more lent (a .kind ∷ []) one (c .before .before .before .before .before .before .before .before .before .before .put2 .ensures) refl in
-    let three = written-more lent (a .kind ∷ a .variable ∷ []) two (c .before .before .before .before .before .before .put3 .ensures) refl in
-    written-more lent (a .kind ∷ a .variable ∷ a .step ∷ []) three (c .before .before .put4 .ensures) refl
+    let three = written-more lent (a .kind ∷ a .first ∷ []) two (c .before .before .before .before .before .before .put3 .ensures) refl in
+    written-more lent (a .kind ∷ a .first ∷ a .second ∷ []) three (c .before .before .put4 .ensures) refl
 
-pub put-operation-spec : {M : Type 1} → statement M
-put-operation-spec =
+pub put-four-spec : {M : Type 1} → statement M
+put-four-spec =
     tie.close
     (tie.spec put-requires put-requires-2 put-requires-3 put-requires-4 same-length returns)

@@ -1,0 +1,44 @@
+-- How words stand for the verdict of loading and for the answer of a lookup, and what the two calls promise.
+-- Assumes nothing.
+use Prim.Native.Nat.{ℕ, _^_, _<_}
+use mathlib.Core.Path.{_≡_}
+use mathlib.Core.List.{List, [], _∷_}
+use lib.IntN.{ℤ, pos, negsuc}
+use Rattle.rules.specs.declared.names.Found.{Found}
+use Rattle.rules.specs.declared.names.Found.the-variants.{At, Nothing}
+use Rattle.loader.specs.declared.whole.Verdict.{Verdict}
+use Rattle.loader.specs.declared.whole.Verdict.the-variants.{Accepted, Refused}
+use Rattle.loader.specs.Load.{Loaded}
+use Rattle.abi.specs.Words.{written}
+
+-- 0, a refusal's number and its place; or 1 and the counts of parameters, registers and variables
+abbrev pub verdictWords : Verdict → List ℕ
+verdictWords (Refused number place) = 0 ∷ number ∷ place ∷ 0 ∷ []
+verdictWords (Accepted parameters registers variables) = 1 ∷ parameters ∷ registers ∷ variables ∷ []
+
+-- the refusal's number, and 0 where the text is accepted
+abbrev pub verdictNumber : Verdict → ℕ
+verdictNumber (Refused number place) = number
+verdictNumber (Accepted parameters registers variables) = 0
+
+-- the verdict, told in lent words
+pub record ToldVerdict (verdict : Verdict) (answer after : List ℕ) (number : ℕ) : Type 0 where
+  pub answer-is : after ≡ written (verdictWords verdict) answer
+  pub number-is : number ≡ verdictNumber verdict
+
+-- a load that comes to this, lent these words, leaves these tables and these words, and returns this number
+pub record TellsLoaded (l : Loaded) (answer : List ℕ) (parameters registers variables after : List ℕ) (number : ℕ) : Type 0 where
+  pub parameters-are : parameters ≡ l .tables .parameters
+  pub registers-are : registers ≡ l .tables .registers
+  pub variables-are : variables ≡ l .tables .variables
+  pub told : ToldVerdict (l .verdict) answer after number
+
+-- the variable found, and -1 for none
+abbrev pub foundWord : Found → ℤ
+foundWord (At i) = pos i
+foundWord Nothing = negsuc 0
+
+-- an index that fits a word
+abbrev pub Narrow : Found → Type 0
+Narrow (At i) = i < 2 ^ 32
+Narrow Nothing = Unit {0}
