@@ -2,7 +2,10 @@
 //! for an operation and an answer. Nothing checks the declarations below against it, so they stand
 //! once, here, each with a safe wrapper.
 
-use second::{Access, Answer, Operation, Part, Tables};
+use second::{Access, Answer, Loaded, Operation, Part, Tables};
+
+/// Words of a verdict: 0, a refusal's number and place; or 1 and the three counts.
+pub const VERDICT_WORDS: usize = 4;
 
 /// Words of an operation in hand: kind, variable, step, bits.
 pub const OPERATION_WORDS: usize = 4;
@@ -12,6 +15,28 @@ pub const ANSWER_WORDS: usize = 5;
 
 // A slice passes as a pointer and a length.
 extern "C" {
+    fn desfanuk_load(
+        text: *const u8,
+        text_len: usize,
+        parameters: *mut u32,
+        parameters_len: usize,
+        registers: *mut u32,
+        registers_len: usize,
+        variables: *mut u32,
+        variables_len: usize,
+        answer: *mut u64,
+        answer_len: usize,
+    ) -> u32;
+
+    fn desfanuk_lookup(
+        text: *const u8,
+        text_len: usize,
+        variables: *const u32,
+        variables_len: usize,
+        name: *const u8,
+        name_len: usize,
+    ) -> i64;
+
     fn desfanuk_sound(
         parameters: *const u32,
         parameters_len: usize,
@@ -115,6 +140,66 @@ extern "C" {
 
 // The calls have no `requires`: any slices and any numbers may be passed. They write inside the
 // slices that are lent as `&mut` alone, and keep none of the pointers.
+
+/// Loads a text; the verdict is told in these words, as far as they go. Gives the refusal's number.
+pub fn load_words(
+    text: &[u8],
+    parameters: &mut [u32],
+    registers: &mut [u32],
+    variables: &mut [u32],
+    words: &mut [u64],
+) -> u32 {
+    unsafe {
+        desfanuk_load(
+            text.as_ptr(),
+            text.len(),
+            parameters.as_mut_ptr(),
+            parameters.len(),
+            registers.as_mut_ptr(),
+            registers.len(),
+            variables.as_mut_ptr(),
+            variables.len(),
+            words.as_mut_ptr(),
+            words.len(),
+        )
+    }
+}
+
+/// Loads a text.
+pub fn load(
+    text: &[u8],
+    parameters: &mut [u32],
+    registers: &mut [u32],
+    variables: &mut [u32],
+) -> Loaded {
+    let mut words = [u64::MAX; VERDICT_WORDS];
+    let number = load_words(text, parameters, registers, variables, &mut words);
+    let loaded = verdict_of(&words);
+    let refusal = match loaded {
+        Loaded::Accepted { .. } => 0,
+        Loaded::Refused { number, .. } => u32::from(number),
+    };
+    assert_eq!(number, refusal, "the number returned");
+    loaded
+}
+
+/// The variable of this name.
+pub fn lookup(text: &[u8], variables: &[u32], name: &[u8]) -> Option<usize> {
+    let answer = unsafe {
+        desfanuk_lookup(
+            text.as_ptr(),
+            text.len(),
+            variables.as_ptr(),
+            variables.len(),
+            name.as_ptr(),
+            name.len(),
+        )
+    };
+    match answer {
+        -1 => None,
+        index => Some(usize::try_from(index).expect("an index")),
+    }
+}
 
 pub fn sound(tables: Tables) -> bool {
     let (p, r, v) = (tables.parameters, tables.registers, tables.variables);
@@ -283,6 +368,23 @@ pub fn abandon(
             answer.as_mut_ptr(),
             answer.len(),
         )
+    }
+}
+
+/// The verdict that words stand for. Words that stand for none are a fault of the call.
+pub fn verdict_of(words: &[u64; VERDICT_WORDS]) -> Loaded {
+    let number = |word: u64| usize::try_from(word).expect("a number of a verdict");
+    match *words {
+        [0, refusal, place, 0] => Loaded::Refused {
+            number: u8::try_from(refusal).expect("a refusal"),
+            place: number(place),
+        },
+        [1, parameters, registers, variables] => Loaded::Accepted {
+            parameters: number(parameters),
+            registers: number(registers),
+            variables: number(variables),
+        },
+        _ => panic!("no verdict: {words:?}"),
     }
 }
 
