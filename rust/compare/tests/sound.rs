@@ -67,7 +67,7 @@ fn two_words_changed() {
         }
         agreed(&set, &mut seen);
     }
-    seen.require("two words changed", ["sound", "not sound"], 500);
+    seen.require("two words changed", ["sound", "not sound"], 200);
 }
 
 /// Every length around the stated sizes, and the short ones.
