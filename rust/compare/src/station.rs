@@ -1,5 +1,6 @@
 //! A proved station with the state that it keeps between calls, as station software would hold it.
 
+use second::board::Calls;
 use second::{Answer, Description, Tables};
 
 use crate::proved::{self, ANSWER_WORDS, OPERATION_WORDS};
@@ -23,8 +24,10 @@ impl<'t> Station<'t> {
             answer: [0; ANSWER_WORDS],
         }
     }
+}
 
-    pub fn open(&mut self, power: &[u8]) -> Answer {
+impl Calls for Station<'_> {
+    fn open(&mut self, power: &[u8]) -> Answer {
         proved::open(
             self.tables,
             power,
@@ -36,7 +39,7 @@ impl<'t> Station<'t> {
         proved::answer_of(&self.answer)
     }
 
-    pub fn begin_read(&mut self, variable: usize) -> Answer {
+    fn begin_read(&mut self, variable: usize) -> Answer {
         proved::begin_read(
             self.tables,
             &self.record,
@@ -48,7 +51,7 @@ impl<'t> Station<'t> {
         proved::answer_of(&self.answer)
     }
 
-    pub fn begin_write(&mut self, variable: usize, value: i64) -> Answer {
+    fn begin_write(&mut self, variable: usize, value: i64) -> Answer {
         proved::begin_write(
             self.tables,
             &self.record,
@@ -61,7 +64,7 @@ impl<'t> Station<'t> {
         proved::answer_of(&self.answer)
     }
 
-    pub fn confirm(&mut self, byte: u8) -> Answer {
+    fn confirm(&mut self, byte: u8) -> Answer {
         proved::confirm(
             self.tables,
             &mut self.record,
@@ -73,7 +76,7 @@ impl<'t> Station<'t> {
         proved::answer_of(&self.answer)
     }
 
-    pub fn abandon(&mut self) -> Answer {
+    fn abandon(&mut self) -> Answer {
         proved::abandon(
             self.tables,
             &self.record,

@@ -3,6 +3,7 @@
 //! This crate is written from the papers alone (documents 01, 001 and 003), so that it can be held
 //! against the proved implementation: where the two differ, the papers decide.
 
+pub mod board;
 mod description;
 pub mod frame;
 pub mod generate;

@@ -1,0 +1,202 @@
+//! The storage board of demand 3, and what an onlooker expects of it. Nothing here knows how a
+//! station makes its bytes: the board sees accesses, the onlooker values.
+
+use std::collections::HashMap;
+
+use crate::generate::Random;
+use crate::{Access, Answer, Description, Kind, Part, Variable};
+
+/// A station's five calls, whoever answers them.
+pub trait Calls {
+    fn open(&mut self, power: &[u8]) -> Answer;
+    fn begin_read(&mut self, variable: usize) -> Answer;
+    fn begin_write(&mut self, variable: usize, value: i64) -> Answer;
+    fn confirm(&mut self, byte: u8) -> Answer;
+    fn abandon(&mut self) -> Answer;
+}
+
+/// A cell for each register: a write at its write place sets it, a read at its read place gives it.
+pub struct Board {
+    pub cells: Vec<u8>,
+    reads: HashMap<(usize, u32), usize>,
+    writes: HashMap<(usize, u32), usize>,
+}
+
+impl Board {
+    pub fn new(description: &Description, cells: &[u8]) -> Board {
+        let mut board = Board {
+            cells: cells.to_vec(),
+            reads: HashMap::new(),
+            writes: HashMap::new(),
+        };
+        for (index, register) in description.registers.iter().enumerate() {
+            if let Some(port) = register.read {
+                board.reads.insert((port.parameter, port.offset), index);
+            }
+            if let Some(port) = register.write {
+                board.writes.insert((port.parameter, port.offset), index);
+            }
+        }
+        board
+    }
+
+    /// Performs an access; gives the byte for its confirmation, which is ignored after a write.
+    pub fn perform(&mut self, access: Access) -> u8 {
+        let place = (access.parameter, access.offset);
+        match access.direction {
+            Part::Read => self.cells[self.reads[&place]],
+            Part::Write => {
+                self.cells[self.writes[&place]] = access.byte;
+                0x99
+            }
+        }
+    }
+}
+
+/// Not volatile, no trigger, read and written through the same bits in the same order.
+pub fn plain(variable: &Variable) -> bool {
+    match (&variable.read, &variable.write) {
+        (Some(read), Some(write)) => {
+            !variable.volatile && !read.trigger && !write.trigger && read.pieces == write.pieces
+        }
+        _ => false,
+    }
+}
+
+/// The value that bytes hold for a variable with a read part, worked out bit by bit.
+pub fn held_by(variable: &Variable, cells: &[u8]) -> i64 {
+    let mut value: i64 = 0;
+    for piece in &variable.read.as_ref().expect("a read part").pieces {
+        for bit in (piece.low..=piece.high).rev() {
+            value = value * 2 + i64::from(cells[piece.register] >> bit & 1);
+        }
+    }
+    if variable.kind == Kind::Signed && value >> (variable.width - 1) & 1 == 1 {
+        value -= 1 << variable.width;
+    }
+    value
+}
+
+/// A value in the variable's range.
+pub fn some_value(random: &mut Random, variable: &Variable) -> i64 {
+    let value = (random.number() % (1u64 << variable.width)) as i64;
+    match variable.kind {
+        Kind::Signed => value - (1 << (variable.width - 1)),
+        _ => value,
+    }
+}
+
+/// What reading a plain variable must give.
+#[derive(Clone, Copy, Debug, PartialEq)]
+enum Known {
+    Value(i64),
+    HalfWritten,
+}
+
+/// What became of an operation.
+pub enum Ended {
+    Done(i64),
+    Abandoned,
+    Refused(u8),
+}
+
+/// Takes a begun operation to its end; abandons it at an offer once in `odds` times, or never if
+/// that is 0. An access that is abandoned may have been performed or not.
+pub fn to_its_end(
+    random: &mut Random,
+    station: &mut dyn Calls,
+    board: &mut Board,
+    begun: Answer,
+    odds: usize,
+) -> Ended {
+    let mut answer = begun;
+    let mut confirmed = 0;
+    loop {
+        match answer {
+            Answer::Offer(access) if odds > 0 && random.one_in(odds) => {
+                if random.one_in(2) {
+                    board.perform(access);
+                }
+                assert_eq!(station.abandon(), Answer::Abandoned);
+                return Ended::Abandoned;
+            }
+            Answer::Offer(access) => {
+                confirmed += 1;
+                answer = station.confirm(board.perform(access));
+            }
+            Answer::Done { value, accesses } => {
+                assert_eq!(accesses, confirmed);
+                return Ended::Done(value);
+            }
+            Answer::Refused(number) => return Ended::Refused(number),
+            other => panic!("{other}"),
+        }
+    }
+}
+
+/// From one opening on, so many reads and writes of a description that has variables, some of them
+/// abandoned: each read of a plain variable gives the value last finished for it, or its power-on
+/// bits if none was, and is refused as half-written where its own write was abandoned. Tells `note`
+/// what it saw.
+pub fn watch(
+    random: &mut Random,
+    description: &Description,
+    station: &mut dyn Calls,
+    operations: usize,
+    note: &mut dyn FnMut(&'static str),
+) {
+    let power: Vec<u8> = description
+        .registers
+        .iter()
+        .map(|_| random.byte())
+        .collect();
+    assert_eq!(station.open(&power), Answer::Opened);
+    let mut board = Board::new(description, &power);
+    let at_power_on =
+        |variable: &Variable| plain(variable).then(|| Known::Value(held_by(variable, &power)));
+    let mut known: Vec<Option<Known>> = description.variables.iter().map(at_power_on).collect();
+    for _ in 0..operations {
+        let index = random.below(description.variables.len());
+        let variable = &description.variables[index];
+        if random.one_in(2) {
+            let value = some_value(random, variable);
+            let begun = station.begin_write(index, value);
+            let now = match to_its_end(random, station, &mut board, begun, 6) {
+                Ended::Done(done) => {
+                    assert_eq!(done, value);
+                    Known::Value(value)
+                }
+                Ended::Abandoned => Known::HalfWritten,
+                Ended::Refused(number) => {
+                    assert_eq!((number, variable.write.is_none()), (26, true));
+                    continue;
+                }
+            };
+            known[index] = known[index].map(|_| now);
+        } else {
+            let begun = station.begin_read(index);
+            let ended = to_its_end(random, station, &mut board, begun, 6);
+            note(seen_of(known[index], ended));
+        }
+    }
+}
+
+/// Holds the end of a read against what is known of its variable.
+fn seen_of(known: Option<Known>, ended: Ended) -> &'static str {
+    match (known, ended) {
+        (Some(known), Ended::Done(value)) => {
+            assert_eq!(known, Known::Value(value));
+            "read back"
+        }
+        (Some(known), Ended::Refused(28)) => {
+            assert_eq!(known, Known::HalfWritten);
+            "half-written"
+        }
+        (Some(known), Ended::Abandoned) => {
+            assert_ne!(known, Known::HalfWritten);
+            "abandoned"
+        }
+        (Some(_), Ended::Refused(number)) => panic!("refused {number}"),
+        (None, _) => "not plain",
+    }
+}
