@@ -1,0 +1,2 @@
+-- What a reader finds, and where it goes on.
+pub mod Read
