@@ -56,7 +56,7 @@ module _ {X : Type 0} (judge : X → Declaration → X) (text : List ℕ) where
       follows-loop text (λ p. p .step) movedTo (λ kind. eqb kind 300) (λ p. parameterWith judge text (movedTo p (seenAt text (p .step) .past)))
       (λ p s. refl) (λ p. refl) (only text (comma ▸ param) 300 refl) refl refl
       (λ p s. parameterWith judge text (movedTo p (fixedAfter text 300 s)) .step)
-      (λ p. follows-seq text (follows-tok text 300 refl refl) (follows-next-parameter p))
+      (λ p. follows-seq text (follows-tok text 300 refl) (follows-next-parameter p))
       (λ p s i. ap (λ (t : Step). parameterWith judge text (movedTo p t) .step) (past-is text s 300 refl i))
 
   follows-parameters : (p : Progress X) → Follows text (separated comma param) (λ s. moreParameters judge text (length text) (parameterWith judge text (movedTo p s)) .step)
@@ -76,8 +76,8 @@ module _ {X : Type 0} (judge : X → Declaration → X) (text : List ℕ) where
       same-reader text
       (follows-held text (λ t s. fixedAfter text 297 (moreParameters judge text (length text) (parameterWith judge text (movedTo (headWith judge text (movedTo p t)) (headAfter text s .step))) .step))
       (λ t.
-      follows-seq text (follows-tok text 516 refl refl) (follows-seq text (follows-name text) (follows-seq text (follows-tok text 296 refl refl)
-      (follows-seq text (follows-parameters (headWith judge text (movedTo p t))) (follows-tok text 297 refl refl))))))
+      follows-seq text (follows-tok text 516 refl) (follows-seq text (follows-name text) (follows-seq text (follows-tok text 296 refl)
+      (follows-seq text (follows-parameters (headWith judge text (movedTo p t))) (follows-tok text 297 refl))))))
       (λ s. ap (λ (q : Progress X). fixedAfter text 297 (moreParameters judge text (length text) (parameterWith judge text q) .step)) (sym (headed (movedTo p s))))
 
   -- ---- declarations
@@ -101,11 +101,11 @@ module _ {X : Type 0} (judge : X → Declaration → X) (text : List ℕ) where
 
   follows-register-by : (p : Progress X) → Follows text register-ll (registerBy p)
   unfolding registerBy extraWord
-  follows-register-by p = pick-follows text (leb 64 (p .registers)) (extra-follows text 529 refl refl _ (follows-tok text 529 refl refl)) (follows-register text)
+  follows-register-by p = pick-follows text (leb 64 (p .registers)) (extra-follows text 529 refl _ (follows-tok text 529 refl)) (follows-register text)
 
   follows-variable-by : (p : Progress X) → Follows text variable-ll (variableBy p)
   unfolding variableBy extraWord
-  follows-variable-by p = pick-follows text (leb 128 (p .variables)) (extra-follows text 537 refl refl _ (follows-tok text 537 refl refl)) (follows-variable text (replicate 40 0) (replicate 40 0))
+  follows-variable-by p = pick-follows text (leb 128 (p .variables)) (extra-follows text 537 refl _ (follows-tok text 537 refl)) (follows-variable text (replicate 40 0) (replicate 40 0))
 
   follows-declaration-by : (p : Progress X) → Follows text (register-ll ∣ variable-ll) (declarationBy p)
   unfolding declarationBy mem first firstWith firstOfRule nullable lookup rules
@@ -130,7 +130,7 @@ module _ {X : Type 0} (judge : X → Declaration → X) (text : List ℕ) where
   declaration-step p s false e = rw e (variable-step p s (leb 128 (p .variables)) refl)
 
   follows-declaration : (p : Progress X) → Follows text ((register-ll ∣ variable-ll) ▸ semicolon) (λ s. declarationWith judge text (movedTo p s) .step)
-  follows-declaration p = same-reader text (follows-seq text (follows-declaration-by p) (follows-tok text 315 refl refl)) (λ s. declaration-step p s (eqb (kindAt text s) 529) refl)
+  follows-declaration p = same-reader text (follows-seq text (follows-declaration-by p) (follows-tok text 315 refl)) (λ s. declaration-step p s (eqb (kindAt text s) 529) refl)
 
   begins-is : Tells text ((register-ll ∣ variable-ll) ▸ semicolon) begins
   unfolding begins mem first firstWith firstOfRule nullable lookup rules
@@ -155,7 +155,7 @@ module _ {X : Type 0} (judge : X → Declaration → X) (text : List ℕ) where
 
   pub follows-body : (p : Progress X) → Follows text (lbrace ▸ some-of ((register-ll ∣ variable-ll) ▸ semicolon) ▸ rbrace) (λ s. declarationsWith judge text (movedTo p s) .step)
   unfolding declarationsWith movedTo
-  follows-body p = follows-seq text (follows-tok text 379 refl refl) (follows-seq text (follows-declarations p) (follows-tok text 381 refl refl))
+  follows-body p = follows-seq text (follows-tok text 379 refl) (follows-seq text (follows-declarations p) (follows-tok text 381 refl))
 
   -- ---- the device
 
