@@ -1,0 +1,114 @@
+// The accesses that are offered, and the bytes that they carry.
+ghost use mathlib.Core.Path.{_≡_};
+ghost use Prim.Native.Nat.{_≤_, _<_};
+ghost use lib.ListN.{getD};
+ghost use Rattle.wiring.specs.Pieces.{Usable};
+ghost use Rattle.station.specs.Variable.{partOf, widthOf, Byte};
+ghost use Rattle.station.specs.Access.{cellOf, byteToWrite, gatherByte, readAccess, writeAccess};
+use crate::Access;
+use crate::variable::part_of;
+use crate::variable::register_of;
+use crate::variable::width_of;
+use wiring::Cell;
+use wiring::Rule;
+
+// The byte at `i`, and 0 past the end.
+pub fn byte_at(bytes: &[u8], i: usize) -> usize
+    ensures { λ r. ⌜ r ≡ getD (now (bytes .entry)) i 0 ⌝ }
+{
+    if i < bytes.len() {
+        bytes[i] as usize
+    } else {
+        0
+    }
+}
+
+fn cell_of(registers: &[u32], held: &[u8], r: usize) -> Cell
+    requires { ⌜ r < 64 ⌝ }
+    ensures { λ a. ⌜ a ≡ cellOf (now (registers .entry)) (now (held .entry)) r ⌝ }
+{
+    let dots = tables::words::word(registers, 15 * r + 4 + 6 * 1 + 3);
+    let ones = tables::words::word(registers, 15 * r + 4 + 6 * 1 + 5);
+    let byte = byte_at(held, r);
+    Cell {
+        register: r,
+        dots,
+        ones,
+        held: byte,
+    }
+}
+
+pub fn byte_to_write(
+    registers: &[u32],
+    variables: &[u32],
+    held: &[u8],
+    v: usize,
+    value: usize,
+    r: usize,
+) -> u8
+    requires { ⌜ v < 128 ⌝ }
+    requires { ⌜ Usable (partOf (now variables) v 1) ⌝ }
+    requires { ⌜ Byte (now registers) r ⌝ }
+    ensures { λ a. ⌜ a ≡ byteToWrite (now (registers .entry)) (now (variables .entry)) (now (held .entry)) v value r ⌝ }
+{
+    let part = part_of(variables, v, 1);
+    let cell = cell_of(registers, held, r);
+    let width = tables::words::word(registers, 15 * r + 1 + 2);
+    let byte = wiring::assemble(variables, part, Rule::Written(cell, value), width);
+    byte as u8
+}
+
+pub fn gather_byte(variables: &[u32], v: usize, n: usize, so_far: usize, byte: u8) -> usize
+    requires { ⌜ v < 128 ⌝ }
+    requires { ⌜ Usable (partOf (now variables) v 0) ⌝ }
+    requires { ⌜ widthOf (now variables) v ≤ 32 ⌝ }
+    ensures { λ r. ⌜ r ≡ gatherByte (now (variables .entry)) v n «so_far» byte ⌝ }
+{
+    let part = part_of(variables, v, 0);
+    let r = register_of(variables, v, 0, n);
+    let width = width_of(variables, v);
+    wiring::assemble(
+        variables,
+        part,
+        Rule::Gathered(r, byte as usize, so_far),
+        width,
+    )
+}
+
+pub fn read_access(registers: &[u32], r: usize) -> Access
+    requires { ⌜ r < 64 ⌝ }
+    ensures { λ a. ⌜ a ≡ readAccess (now (registers .entry)) r ⌝ }
+{
+    let parameter = tables::words::word(registers, 15 * r + 4 + 6 * 0 + 1);
+    let offset = tables::words::word(registers, 15 * r + 4 + 6 * 0 + 2);
+    Access {
+        direction: tables::Part::Read,
+        parameter,
+        offset,
+        byte: 0,
+    }
+}
+
+pub fn write_access(
+    registers: &[u32],
+    variables: &[u32],
+    held: &[u8],
+    v: usize,
+    value: usize,
+    r: usize,
+) -> Access
+    requires { ⌜ v < 128 ⌝ }
+    requires { ⌜ Usable (partOf (now variables) v 1) ⌝ }
+    requires { ⌜ Byte (now registers) r ⌝ }
+    ensures { λ a. ⌜ a ≡ writeAccess (now (registers .entry)) (now (variables .entry)) (now (held .entry)) v value r ⌝ }
+{
+    let parameter = tables::words::word(registers, 15 * r + 4 + 6 * 1 + 1);
+    let offset = tables::words::word(registers, 15 * r + 4 + 6 * 1 + 2);
+    let byte = byte_to_write(registers, variables, held, v, value, r);
+    Access {
+        direction: tables::Part::Write,
+        parameter,
+        offset,
+        byte,
+    }
+}

@@ -1,0 +1,129 @@
+// A confirmation: it offers the next access, or says done at the last.
+ghost use mathlib.Core.Path.{_≡_};
+ghost use Prim.Native.Nat.{_≤_, _<_, _^_};
+ghost use lib.ListN.{length};
+ghost use Rattle.tables.specs.Words.{wordAt};
+ghost use Rattle.station.specs.Variable.{widthOf, accessCount, Ready};
+ghost use Rattle.station.specs.Standing.{tablesOf};
+ghost use Rattle.station.specs.Station.{Leaves, nextRead, nextWrite, heldAfter};
+ghost use Rattle.tables.specs.View.{sound};
+ghost use Rattle.station.specs.Calls.{confirm};
+ghost use Rattle.station.specs.Promise.{lent, Meets};
+use crate::Operation;
+use crate::Outcome;
+use crate::accesses::byte_to_write;
+use crate::accesses::gather_byte;
+use crate::outcomes::finish;
+use crate::outcomes::offer_read;
+use crate::outcomes::offer_write;
+use crate::outcomes::refuse;
+use crate::standing::fault;
+use crate::variable::access_count;
+use crate::variable::register_of;
+
+fn next_read(
+    registers: &[u32],
+    variables: &[u32],
+    v: usize,
+    step: usize,
+    gathered: usize,
+) -> Outcome
+    requires { ⌜ Ready (now registers) (now variables) v 0 ⌝ }
+    requires { ⌜ gathered < 2 ^ widthOf (now variables) v ⌝ }
+    ensures { λ r. ⌜ r ≡ nextRead (now (registers .entry)) (now (variables .entry)) v step gathered ⌝ }
+{
+    if step < access_count(variables, v, 0) {
+        offer_read(registers, variables, v, step, gathered)
+    } else {
+        finish(variables, v, 0, gathered)
+    }
+}
+
+fn next_write(
+    registers: &[u32],
+    variables: &[u32],
+    held: &[u8],
+    marks: &mut [u8],
+    v: usize,
+    step: usize,
+    value: usize,
+) -> Outcome
+    requires { ⌜ Ready (now registers) (now variables) v 1 ⌝ }
+    requires { ⌜ v < length (now marks) ⌝ }
+    requires { ⌜ value < 2 ^ widthOf (now variables) v ⌝ }
+    ensures { λ r. ⌜ Leaves (nextWrite (now (registers .entry)) (now (variables .entry)) (now (held .entry)) (now (marks .entry)) v step value)
+        (now (held .entry)) (now (marks .exit)) r ⌝ }
+{
+    if step < access_count(variables, v, 1) {
+        return offer_write(registers, variables, held, v, step, value);
+    }
+    marks[v] = 0;
+    finish(variables, v, 1, value)
+}
+
+// The record takes the byte of the access that is confirmed.
+fn record_byte(
+    registers: &[u32],
+    variables: &[u32],
+    held: &mut [u8],
+    v: usize,
+    step: usize,
+    value: usize,
+)
+    requires { ⌜ Ready (now registers) (now variables) v 1 ⌝ }
+    requires { ⌜ step < accessCount (now variables) v 1 ⌝ }
+    requires { ⌜ wordAt (now registers) 0 ≤ length (now held) ⌝ }
+    ensures { λ _. ⌜ now (held .exit) ≡ heldAfter (now (registers .entry)) (now (variables .entry)) (now (held .entry)) v step value ⌝ }
+{
+    let r = register_of(variables, v, 1, step);
+    let byte = byte_to_write(registers, variables, held, v, value, r);
+    held[r] = byte;
+}
+
+pub fn confirm(
+    parameters: &[u32],
+    registers: &[u32],
+    variables: &[u32],
+    held: &mut [u8],
+    marks: &mut [u8],
+    operation: Operation,
+    byte: u8,
+) -> Outcome
+    ensures { λ r. ⌜ Meets
+        (confirm sound
+        (tablesOf (now (parameters .entry)) (now (registers .entry)) (now (variables .entry)))
+        (lent (now (held .entry)) (now (marks .entry)) operation)
+        byte)
+        (now (held .exit)) (now (marks .exit)) r ⌝ }
+{
+    let number = fault(
+        parameters,
+        registers,
+        variables,
+        held.len(),
+        marks.len(),
+        operation,
+    );
+    if number != 0 {
+        return refuse(operation, number);
+    }
+    match operation {
+        Operation::Idle => refuse(operation, 24),
+        Operation::Reading {
+            variable,
+            step,
+            gathered,
+        } => {
+            let value = gather_byte(variables, variable, step, gathered, byte);
+            next_read(registers, variables, variable, step + 1, value)
+        }
+        Operation::Writing {
+            variable,
+            step,
+            value,
+        } => {
+            record_byte(registers, variables, held, variable, step, value);
+            next_write(registers, variables, held, marks, variable, step + 1, value)
+        }
+    }
+}
