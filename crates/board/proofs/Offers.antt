@@ -12,7 +12,7 @@ use Rattle.tables.specs.View.{Tables}
 use Rattle.station.specs.declared.Access.{Access}
 use Rattle.station.specs.declared.Operation.{Operation}
 use Rattle.station.specs.declared.Operation.the-variants.{Idle, Reading, Writing}
-use Rattle.station.specs.Calls.{State, Outcome, onOffer, checked, readTests, writeTests, confirmed, abandoned, readOn, writeOn, isLast, beginRead, beginWrite, confirm, abandon, gather, registerAt, keeping, writeAccess}
+use Rattle.station.specs.Calls.{State, Outcome, onOffer, checked, readTests, writeTests, confirmed, abandoned, readOn, writeOn, isLast, beginRead, beginWrite, confirm, abandon, gather, registerTaken, keeping, writeAccess}
 use Rattle.station.proofs.Refusals.{unless-cases}
 use Rattle.board.specs.Board.{World, Call, BeginRead, BeginWrite, Confirm, Abandon, brought, standing, step}
 
@@ -39,10 +39,10 @@ module _ (sound : Tables → Bool) (t : Tables) where
   goes-on k m Idle byte = refl
   goes-on k m (Reading v n g) byte =
       let s : State = record { kept = k; marks = m; operation = Reading v n g } in
-      read-on s (isLast t reading v (suc n)) v (suc n) (gather t v g (registerAt t reading v n) byte)
+      read-on s (isLast t reading v (suc n)) v (suc n) (gather t v g (registerTaken t reading v n) byte)
   goes-on k m (Writing v n x) byte =
       let s : State = record { kept = k; marks = m; operation = Writing v n x } in
-      write-on s (keeping s (registerAt t writing v n) (writeAccess t s v n x .byte)) (isLast t writing v (suc n)) v (suc n) x
+      write-on s (keeping s (registerTaken t writing v n) (writeAccess t s v n x .byte)) (isLast t writing v (suc n)) v (suc n) x
 
   confirm-told : (s : State) (byte : ℕ) → Told t s (confirm sound t s byte)
   confirm-told s byte = unless-cases (Told t s) (checked sound t s []) s _ (λ n. refl) (λ none-holds. goes-on (s .kept) (s .marks) (s .operation) byte)

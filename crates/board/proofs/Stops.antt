@@ -23,7 +23,7 @@ use Rattle.station.specs.declared.Access.{Access}
 use Rattle.station.specs.declared.Operation.{Operation}
 use Rattle.station.specs.declared.Operation.the-variants.{Idle, Reading, Writing}
 use Rattle.station.specs.declared.Answer.the-variants.{Opened}
-use Rattle.station.specs.Calls.{State, unless, isLong, isAllowed, onOffer, opening, registerAt, keptOf, writtenByte}
+use Rattle.station.specs.Calls.{State, unless, isLong, isAllowed, onOffer, opening, registerTaken, keptOf, writtenByte}
 use Rattle.bits.proofs.BitLaws.{number-same, number-bits}
 use Rattle.station.proofs.Cases.{either, or-false, getD-among}
 use Rattle.station.proofs.ByteLaws.{byte-own}
@@ -103,7 +103,7 @@ module _ (t : Tables) (is-sound : sound t ≡ true) (c : Consistent t) (power : 
   own-offer (Reading v n g) w r here i sets = absurd (subst IsSome (sym sets) tt)
   own-offer (Writing v n x) w r here i sets =
       let a = writing-allowed t v n x (ap (isAllowed t) (sym here) ∙ i .1 .allowed) in
-      let reaches = reach-at sound t is-sound c power writing v n (writtenByte t (keptOf (w .state)) v x (registerAt t writing v n)) (a .0) (a .2) in (
+      let reaches = reach-at sound t is-sound c power writing v n (writtenByte t (keptOf (w .state)) v x (registerTaken t writing v n)) (a .0) (a .2) in (
         v,
         i .0,
         subst (λ (op : Operation). Linked (w .asked) op (i .0)) here (i .2),

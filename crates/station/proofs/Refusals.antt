@@ -11,7 +11,7 @@ use Rattle.tables.specs.View.{Tables}
 use Rattle.station.specs.declared.Operation.{Operation}
 use Rattle.station.specs.declared.Answer.the-variants.{Abandoned as Ended}
 use Rattle.station.specs.declared.Outcome as Code
-use Rattle.station.specs.Calls.{Idle, Reading, Writing, State, Outcome, Test, refused, unless, checked, readTests, writeTests, openingTests, confirmed, abandoned, readOn, writeOn, isLast, gather, registerAt, keeping, writeAccess, opening, beginRead, beginWrite, confirm, abandon}
+use Rattle.station.specs.Calls.{Idle, Reading, Writing, State, Outcome, Test, refused, unless, checked, readTests, writeTests, openingTests, confirmed, abandoned, readOn, writeOn, isLast, gather, registerTaken, keeping, writeAccess, opening, beginRead, beginWrite, confirm, abandon}
 use Rattle.station.specs.Answers.{refusalOf, valuesOf, lowestOf, endTests, Refuses}
 use Rattle.station.specs.Promise.{Meets}
 
@@ -84,11 +84,11 @@ module _ (sound : Tables → Bool) (t : Tables) where
       refuses (endTests sound t s) s (record { answer = Ended; state = s }) refl
   confirm-by k m (Reading v n g) byte =
       let s : State = record { kept = k; marks = m; operation = Reading v n g } in
-      refuses (endTests sound t s) s _ (read-on (isLast t reading v (suc n)) s v (suc n) (gather t v g (registerAt t reading v n) byte))
+      refuses (endTests sound t s) s _ (read-on (isLast t reading v (suc n)) s v (suc n) (gather t v g (registerTaken t reading v n) byte))
   confirm-by k m (Writing v n x) byte =
       let s : State = record { kept = k; marks = m; operation = Writing v n x } in
       refuses (endTests sound t s) s _
-      (write-on (isLast t writing v (suc n)) (keeping s (registerAt t writing v n) (writeAccess t s v n x .byte)) v (suc n) x)
+      (write-on (isLast t writing v (suc n)) (keeping s (registerTaken t writing v n) (writeAccess t s v n x .byte)) v (suc n) x)
 
   pub confirm-refuses : (s : State) (byte : ℕ) → Refuses (endTests sound t s) s (confirm sound t s byte)
   confirm-refuses s byte = confirm-by (s .kept) (s .marks) (s .operation) byte

@@ -22,7 +22,7 @@ use Rattle.bits.specs.Values.{encode, decode}
 use Rattle.station.specs.declared.Access.{Access}
 use Rattle.station.specs.declared.Operation.{Operation}
 use Rattle.station.specs.declared.Answer.{Answer}
-use Rattle.station.specs.Calls.{Reading, Writing, Offered, Done, State, Outcome, keptOf, settingsBit, settingsByte, otherBit, writtenByte, gather, registerAt, stepsOf, accessAt, readAccess, writeAccess, unless, isLong, isAllowed, isGathered, isLast, readOn, writeOn, keeping, checked, readTests, writeTests, beginRead, beginWrite, confirmed}
+use Rattle.station.specs.Calls.{Reading, Writing, Offered, Done, State, Outcome, keptOf, settingsBit, settingsByte, otherBit, writtenByte, gather, registerTaken, stepsOf, accessAt, readAccess, writeAccess, unless, isLong, isAllowed, isGathered, isLast, readOn, writeOn, keeping, checked, readTests, writeTests, beginRead, beginWrite, confirmed}
 use Rattle.station.specs.Answers.{refusalOf}
 use Rattle.station.specs.Steps.{readPlan, writePlan, broughtFor, valueRead, answersOf, offersThenDone, GoesByPlan}
 use Rattle.bits.proofs.BitLaws.{bits-equal, bit-number, number-lt}
@@ -86,13 +86,13 @@ module _ (t : Tables) (ok : sound t ≡ true) where
 
   writes-from : (bytes k m : List ℕ) (f : ℕ → ℕ) (v n x : ℕ) → v < variableCount t → variableHas t writing v ≡ true → x < 2 ^ size t writing v
       → registerCount t ≤ length k → variableCount t ≤ length m → n < stepsOf t writing v → n + length bytes ≤ stepsOf t writing v
-      → ((i : ℕ) → n ≤ i → i < stepsOf t writing v → getD k (registerAt t writing v i) 0 ≡ f (registerAt t writing v i))
+      → ((i : ℕ) → n ≤ i → i < stepsOf t writing v → getD k (registerTaken t writing v i) 0 ≡ f (registerTaken t writing v i))
       → answersOf t (record { answer = Offered (writeAccess t (st k m (Writing v n x)) v n x); state = st k m (Writing v n x) }) bytes
       ≡ take (suc (length bytes)) (map Offered (map (offeredWrite f v x) (drop n (registersOf t writing v))) ++ (Done (decode (kindOf t v) (size t writing v) x) (stepsOf t writing v) ∷ []))
   unfolding answersOf
   writes-from [] k m f v n x hv has hx hk hm hn hb same =
-      ap (λ (byte : ℕ). Offered (accessAt t writing (registerAt t writing v n) byte) ∷ [])
-      (byte-same (λ r. getD k r 0) f v x (registerAt t writing v n) (same n (omega arith) hn))
+      ap (λ (byte : ℕ). Offered (accessAt t writing (registerTaken t writing v n) byte) ∷ [])
+      (byte-same (λ r. getD k r 0) f v x (registerTaken t writing v n) (same n (omega arith) hn))
       ∙ sym (next-offer (offeredWrite f v x) (registersOf t writing v) n 0 _ hn)
   writes-from (byte ∷ bytes) k m f v n x hv has hx hk hm hn hb same =
       ap₂ (λ (a : Answer) (l : List Answer). a ∷ l)
@@ -101,11 +101,11 @@ module _ (t : Tables) (ok : sound t ≡ true) where
       (passes k m (Writing v n x) (confirmed t s (Writing v n x) byte) hk hm (allow-writing t v n x (is-underway t writing v n hv has hn) hx))
       ∙ go (isLast t writing v (suc n)) refl
       (λ more. writes-from bytes k′ m f v (suc n) x hv has hx (rw (length-set k r (writtenByte t (λ q. getD k q 0) v x r)) hk) hm more (omega arith)
-      (λ i hi hs. getD-set-other k r (registerAt t writing v i) _ 0 (once-apart (registersOf t writing v) n i (registers-once t writing v) hi hs) ∙ same i (omega arith) hs)))
+      (λ i hi hs. getD-set-other k r (registerTaken t writing v i) _ 0 (once-apart (registersOf t writing v) n i (registers-once t writing v) hi hs) ∙ same i (omega arith) hs)))
       ∙ sym (next-offer (offeredWrite f v x) (registersOf t writing v) n (suc (length bytes)) _ hn)
     where
       r : ℕ
-      r = registerAt t writing v n
+      r = registerTaken t writing v n
 
       s : State
       s = st k m (Writing v n x)
@@ -142,12 +142,12 @@ module _ (t : Tables) (ok : sound t ≡ true) where
   GatheredOf byteOf v n g =
       (j : ℕ) → j < size t reading v → Among (homeOf t reading v j) (take n (registersOf t reading v)) → bit j g ≡ bit (spotOf t reading v j) (byteOf (homeOf t reading v j))
 
-  gathers : (byteOf : ℕ → ℕ) (v n g byte : ℕ) → byte ≡ byteOf (registerAt t reading v n) → GatheredOf byteOf v n g
-      → GatheredOf byteOf v (suc n) (gather t v g (registerAt t reading v n) byte)
+  gathers : (byteOf : ℕ → ℕ) (v n g byte : ℕ) → byte ≡ byteOf (registerTaken t reading v n) → GatheredOf byteOf v n g
+      → GatheredOf byteOf v (suc n) (gather t v g (registerTaken t reading v n) byte)
   gathers byteOf v n g byte is so-far j hj among = go (either (eqb (homeOf t reading v j) r)) (among-take (registersOf t reading v) n _ among)
     where
       r : ℕ
-      r = registerAt t reading v n
+      r = registerTaken t reading v n
 
       go : (eqb (homeOf t reading v j) r ≡ true) ⊎ (eqb (homeOf t reading v j) r ≡ false)
           → Among (homeOf t reading v j) (take n (registersOf t reading v)) ⊎ (homeOf t reading v j ≡ r)
@@ -169,7 +169,7 @@ module _ (t : Tables) (ok : sound t ≡ true) where
 
   reads-from : (bytes k m : List ℕ) (byteOf : ℕ → ℕ) (v n g : ℕ) → v < variableCount t → variableHas t reading v ≡ true → isGathered t v n g ≡ true
       → registerCount t ≤ length k → variableCount t ≤ length m → n < stepsOf t reading v → n + length bytes ≤ stepsOf t reading v
-      → ((i : ℕ) → i < length bytes → getD bytes i 0 ≡ byteOf (registerAt t reading v (n + i))) → GatheredOf byteOf v n g
+      → ((i : ℕ) → i < length bytes → getD bytes i 0 ≡ byteOf (registerTaken t reading v (n + i))) → GatheredOf byteOf v n g
       → answersOf t (record { answer = Offered (readAccess t v n); state = st k m (Reading v n g) }) bytes
       ≡ take (suc (length bytes)) (map Offered (map offeredRead (drop n (registersOf t reading v))) ++ (Done (decode (kindOf t v) (size t reading v) (patternFrom byteOf v)) (stepsOf t reading v) ∷ []))
   unfolding answersOf
@@ -180,11 +180,11 @@ module _ (t : Tables) (ok : sound t ≡ true) where
       (passes k m (Reading v n g) (confirmed t s (Reading v n g) byte) hk hm (allow-reading t v n g (is-underway t reading v n hv has hn) is))
       ∙ go (isLast t reading v (suc n)) refl
       (λ more. reads-from bytes k m byteOf v (suc n) g′ hv has (gathered-more t v n g byte hn is) hk hm more (omega arith)
-      (λ i hi. brought (suc i) (omega arith) ∙ ap (λ (q : ℕ). byteOf (registerAt t reading v q)) (shifted n i)) grown))
+      (λ i hi. brought (suc i) (omega arith) ∙ ap (λ (q : ℕ). byteOf (registerTaken t reading v q)) (shifted n i)) grown))
       ∙ sym (next-offer offeredRead (registersOf t reading v) n (suc (length bytes)) _ hn)
     where
       r : ℕ
-      r = registerAt t reading v n
+      r = registerTaken t reading v n
 
       s : State
       s = st k m (Reading v n g)
@@ -200,7 +200,7 @@ module _ (t : Tables) (ok : sound t ≡ true) where
 
       grown : GatheredOf byteOf v (suc n) g′
       grown =
-          gathers byteOf v n g byte (brought 0 (omega arith) ∙ ap (λ (q : ℕ). byteOf (registerAt t reading v q)) (at-start n)) gathered
+          gathers byteOf v n g byte (brought 0 (omega arith) ∙ ap (λ (q : ℕ). byteOf (registerTaken t reading v q)) (at-start n)) gathered
         where
           at-start : (n : ℕ) → n + 0 ≡ n
           at-start n = omega arith
@@ -274,7 +274,7 @@ module _ (t : Tables) (s : State) (v : ℕ) where
       (some-step t (consistent t ok) reading v hv here) (omega arith)
       (λ i hi.
       brought-at (registersOf t reading v) bytes i (registers-once t reading v) (omega arith) hi
-      ∙ ap (λ (q : ℕ). broughtFor (registersOf t reading v) bytes (registerAt t reading v q)) (sym (zero-add i)))
+      ∙ ap (λ (q : ℕ). broughtFor (registersOf t reading v) bytes (registerTaken t reading v q)) (sym (zero-add i)))
       (λ j hj nothing. absurd nothing)
       ∙ ap (λ (n : ℕ). take (suc (length bytes)) (map Offered (readPlan t v) ++ (Done (valueRead t v bytes) n ∷ []))) (sym count))
 

@@ -10,7 +10,7 @@ use Rattle.bits.specs.Bits.{bit}
 use Rattle.tables.specs.declared.Part.{Part}
 use Rattle.tables.specs.declared.Part.the-variants.{Read as reading, Write as writing}
 use Rattle.tables.specs.View.{Tables, variableCount, variableHas, size, homeOf, registersOf, isAmong}
-use Rattle.station.specs.Calls.{Idle, Reading, Writing, isUnderway, isRead, isGathered, gatheredBit, isAllowed, gather, registerAt, stepsOf}
+use Rattle.station.specs.Calls.{Idle, Reading, Writing, isUnderway, isRead, isGathered, gatheredBit, isAllowed, gather, registerTaken, stepsOf}
 use Rattle.bits.proofs.BitLaws.{bit-number, number-lt, number-same, number-zero}
 use Rattle.station.proofs.Cases.{and-true, true-and, isAmong-take}
 
@@ -62,13 +62,13 @@ module _ (t : Tables) where
       sym (ap (bit j) (eqb-true _ _ e)) ∙ bit-number (size t reading v) (λ j. isRead t v step j && bit j g) j hj
 
   pub gathered-more : (v step g byte : ℕ) → step < stepsOf t reading v → isGathered t v step g ≡ true
-      → isGathered t v (suc step) (gather t v g (registerAt t reading v step) byte) ≡ true
+      → isGathered t v (suc step) (gather t v g (registerTaken t reading v step) byte) ≡ true
   unfolding isGathered isRead gather gatheredBit
   gathered-more v step g byte hs e =
       eq-eqb _ _ (number-same (size t reading v) _ _ (λ j hj. ap (λ (b : Bool). isRead t v (suc step) j && b) (bit-number (size t reading v) _ j hj) ∙ one j hj))
     where
       r : ℕ
-      r = registerAt t reading v step
+      r = registerTaken t reading v step
 
       one : (j : ℕ) → j < size t reading v → (isRead t v (suc step) j && gatheredBit t v g r byte j) ≡ gatheredBit t v g r byte j
       one j hj =
