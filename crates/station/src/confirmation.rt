@@ -21,6 +21,7 @@ use crate::standing::fault;
 use crate::variable::access_count;
 use crate::variable::register_of;
 
+// `step` accesses of the read are confirmed: the next is offered, or none is left and the read is done.
 fn next_read(
     registers: &[u32],
     variables: &[u32],
@@ -29,16 +30,19 @@ fn next_read(
     gathered: usize,
 ) -> Outcome
     requires { ⌜ Ready (now registers) (now variables) v 0 ⌝ }
+    requires { ⌜ step ≤ accessCount (now variables) v 0 ⌝ }
     requires { ⌜ gathered < 2 ^ widthOf (now variables) v ⌝ }
     ensures { λ r. ⌜ r ≡ nextRead (now (registers .entry)) (now (variables .entry)) v step gathered ⌝ }
 {
-    if step < access_count(variables, v, 0) {
+    let unread = access_count(variables, v, 0) - step;
+    if 0 < unread {
         offer_read(registers, variables, v, step, gathered)
     } else {
         finish(variables, v, 0, gathered)
     }
 }
 
+// `step` accesses of the write are confirmed: the next is offered, or none is left, the write is done and its mark cleared.
 fn next_write(
     registers: &[u32],
     variables: &[u32],
@@ -49,12 +53,14 @@ fn next_write(
     value: usize,
 ) -> Outcome
     requires { ⌜ Ready (now registers) (now variables) v 1 ⌝ }
+    requires { ⌜ step ≤ accessCount (now variables) v 1 ⌝ }
     requires { ⌜ v < length (now marks) ⌝ }
     requires { ⌜ value < 2 ^ widthOf (now variables) v ⌝ }
     ensures { λ r. ⌜ Leaves (nextWrite (now (registers .entry)) (now (variables .entry)) (now (held .entry)) (now (marks .entry)) v step value)
         (now (held .entry)) (now (marks .exit)) r ⌝ }
 {
-    if step < access_count(variables, v, 1) {
+    let unwritten = access_count(variables, v, 1) - step;
+    if 0 < unwritten {
         return offer_write(registers, variables, held, v, step, value);
     }
     marks[v] = 0;
@@ -114,16 +120,18 @@ pub fn confirm(
             step,
             gathered,
         } => {
+            let next = step + 1;
             let value = gather_byte(variables, variable, step, gathered, byte);
-            next_read(registers, variables, variable, step + 1, value)
+            next_read(registers, variables, variable, next, value)
         }
         Operation::Writing {
             variable,
             step,
             value,
         } => {
+            let next = step + 1;
             record_byte(registers, variables, held, variable, step, value);
-            next_write(registers, variables, held, marks, variable, step + 1, value)
+            next_write(registers, variables, held, marks, variable, next, value)
         }
     }
 }

@@ -55,32 +55,34 @@ refuse-requires-2 c κs = search needs
 enum-known-operation : tie.Need-enum-known-operation
 enum-known-operation c = search needs
 
+add-next : tie.Need-add-next
+add-next c = omega (arith, on-read (c .before) .step-few)
+
 gather-byte-requires : tie.Need-gather-byte-requires
 gather-byte-requires c κs =
     let on = on-read (c .before) in
     (on .ready .few, (on .ready .usable, on .ready .narrow))
 
-add-next-read : tie.Need-add-next-read
-add-next-read c = omega (arith, on-read (c .before .before) .step-few)
-
 next-read-requires : tie.Need-next-read-requires
-next-read-requires c κs = (on-read (c .before .before) .ready, rw (c .gather-byte .ensures) (gathered-fits _ _ _ _ _))
+next-read-requires c κs =
+    let on = on-read (c .before .before) in
+    (on .ready, (omega (arith, on .step-due), rw (c .gather-byte .ensures) (gathered-fits _ _ _ _ _)))
 
 enum-known-operation-2 : tie.Need-enum-known-operation-2
 enum-known-operation-2 c = search needs
+
+add-next-2 : tie.Need-add-next-2
+add-next-2 c = omega (arith, on-write (c .before) .step-few)
 
 record-byte-requires : tie.Need-record-byte-requires
 record-byte-requires c κs =
     let on = on-write (c .before .before) in
     (on .ready, (on .step-due, clear (c .before .before .before .before) .held-long))
 
-add-next-write : tie.Need-add-next-write
-add-next-write c = omega (arith, on-write (c .before .before .before .before .before .before .before) .step-few)
-
 next-write-requires : tie.Need-next-write-requires
 next-write-requires c κs =
     let on = on-write (c .before .before .before .before .before .before .before) in
-    (on .ready, (lt-of-lt-of-le (on .inside) (clear (c .before .before .before .before .before .before .before .before .before) .marks-long), writing-fits _ _ _ _ (clear (c .before .before .before .before .before .before .before .before .before)) _ _ _ (c .before .before .before .before .before .before .before .operation2 .given .1)))
+    (on .ready, (omega (arith, on .step-due), (lt-of-lt-of-le (on .inside) (clear (c .before .before .before .before .before .before .before .before .before) .marks-long), writing-fits _ _ _ _ (clear (c .before .before .before .before .before .before .before .before .before)) _ _ _ (c .before .before .before .before .before .before .before .operation2 .given .1))))
 
 returns-2 : tie.Need-returns-2
 returns-2 c = meets (confirm-is (tables-at (c .before .before .before .before .before .before .before .before .before .before)) (state-at (c .before .before .before .before .before .before .before .before .before .before)) (c .before .before .before .before .before .before .before .before .before .before .args .byte)) (
@@ -116,12 +118,12 @@ confirm-spec =
     enum-told
     refuse-requires-2
     enum-known-operation
+    add-next
     gather-byte-requires
-    add-next-read
     next-read-requires
     enum-known-operation-2
+    add-next-2
     record-byte-requires
-    add-next-write
     next-write-requires
     returns-2
     returns-3
