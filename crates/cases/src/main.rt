@@ -1,6 +1,12 @@
 // The verdict on each framed text on standard input, a line each. The stored cases and what they must say come from the second implementation.
 use frames::Frame;
 
+fn tell(text: &[u8]) {
+    let mut line = [0u8; 80];
+    let end = lines::line_on(text, &mut line);
+    io::write_all(1, &line[..end]);
+}
+
 // One frame at a time: a frame ends after it began, so the loop does.
 fn tell_all(input: &[u8]) {
     let mut at = 0;
@@ -8,7 +14,7 @@ fn tell_all(input: &[u8]) {
         let frame = frames::frame_at(input, at);
         match frame {
             Frame::Text { start, end, next } => {
-                verdicts::tell_of(&input[start..end]);
+                tell(&input[start..end]);
                 at = next;
             }
             Frame::Nothing => return,

@@ -22,17 +22,17 @@ frame-at-requires c κs = search needs
 enum-known-frame : tie.Need-enum-known-frame Inv-loop μ-loop
 enum-known-frame c = search needs
 
-sub-tell-of : tie.Need-sub-tell-of Inv-loop μ-loop
-sub-tell-of c = text-within _ _ _ (c .before .before .before .frame-at .ensures) (c .before .frame .given .1) .0
+sub-tell : tie.Need-sub-tell Inv-loop μ-loop
+sub-tell c = text-within _ _ _ (c .before .before .before .frame-at .ensures) (c .before .frame .given .1) .0
 
-part-tell-of-start : tie.Need-part-tell-of-start Inv-loop μ-loop
-part-tell-of-start c = text-within _ _ _ (c .before .before .before .frame-at .ensures) (c .before .frame .given .1) .0
+part-tell-start : tie.Need-part-tell-start Inv-loop μ-loop
+part-tell-start c = text-within _ _ _ (c .before .before .before .frame-at .ensures) (c .before .frame .given .1) .0
 
-part-tell-of-end : tie.Need-part-tell-of-end Inv-loop μ-loop
-part-tell-of-end c = text-within _ _ _ (c .before .before .before .frame-at .ensures) (c .before .frame .given .1) .1
+part-tell-end : tie.Need-part-tell-end Inv-loop μ-loop
+part-tell-end c = text-within _ _ _ (c .before .before .before .frame-at .ensures) (c .before .frame .given .1) .1
 
-tell-of-requires : tie.Need-tell-of-requires Inv-loop μ-loop
-tell-of-requires c κs = search needs
+tell-requires : tie.Need-tell-requires Inv-loop μ-loop
+tell-requires c κs = search needs
 
 loop-less : tie.Need-loop-less Inv-loop μ-loop
 loop-less c = let h = text-within _ _ _ (c .before .before .before .before .before .frame-at .ensures) (c .before .before .before .frame .given .1) in omega (arith, h .2, h .3)
@@ -55,10 +55,10 @@ tell-all-spec =
     loop-holds
     frame-at-requires
     enum-known-frame
-    sub-tell-of
-    part-tell-of-start
-    part-tell-of-end
-    tell-of-requires
+    sub-tell
+    part-tell-start
+    part-tell-end
+    tell-requires
     loop-less
     loop-again
     enum-told

@@ -1,0 +1,2 @@
+-- The lines that the programs write.
+pub mod Lines
