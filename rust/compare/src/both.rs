@@ -1,6 +1,7 @@
 //! One station over the same tables in both implementations: every call is made in each, and
 //! whatever it answers and leaves must be the same.
 
+use desfanuk::raw;
 use second::generate::{Random, TableSet};
 use second::replay::Call;
 use second::{Answer, Operation, Tables};
@@ -115,21 +116,21 @@ impl Both {
     }
 
     fn proved_call(&mut self, call: &Call) -> Answer {
-        let tables = lent(&self.tables);
+        let tables = proved::words(lent(&self.tables));
         let record = &mut self.proved_record[..self.lent_record];
         let marks = &mut self.proved_marks[..self.lent_marks];
         let operation = &mut self.proved_operation[..];
         let mut words = [-77; ANSWER_WORDS + GUARD];
         let number = match call {
-            Call::Open(bytes) => proved::open(tables, bytes, record, marks, operation, &mut words),
-            Call::Read(v) => proved::begin_read(tables, record, marks, operation, *v, &mut words),
+            Call::Open(bytes) => raw::open(tables, bytes, record, marks, operation, &mut words),
+            Call::Read(v) => raw::begin_read(tables, record, marks, operation, *v, &mut words),
             Call::Write(v, value) => {
-                proved::begin_write(tables, record, marks, operation, *v, *value, &mut words)
+                raw::begin_write(tables, record, marks, operation, *v, *value, &mut words)
             }
             Call::Confirm(byte) => {
-                proved::confirm(tables, record, marks, operation, *byte, &mut words)
+                raw::confirm(tables, record, marks, operation, *byte, &mut words)
             }
-            _ => proved::abandon(tables, record, marks, operation, &mut words),
+            _ => raw::abandon(tables, record, marks, operation, &mut words),
         };
         let (answer, guard) = words.split_at(ANSWER_WORDS);
         assert_eq!(guard, [-77; GUARD], "words behind the answer of {call}");

@@ -1,89 +1,73 @@
-//! A proved station with the state that it keeps between calls, as station software would hold it.
+//! The station that crate `desfanuk` gives to station software, with the second implementation's
+//! answers.
 
+use desfanuk::{Description, Direction, Refusal};
 use second::board::Calls;
-use second::{Answer, Description, Tables};
+use second::{Access, Answer, Part};
 
-use crate::proved::{self, ANSWER_WORDS, OPERATION_WORDS};
-
-pub struct Station<'t> {
-    tables: Tables<'t>,
-    record: Vec<u8>,
-    marks: Vec<u8>,
-    operation: [u64; OPERATION_WORDS],
-    answer: [i64; ANSWER_WORDS],
+/// A station that is not open before the first opening.
+pub struct Station<'d> {
+    description: &'d Description,
+    opened: Option<desfanuk::Station<'d>>,
 }
 
-impl<'t> Station<'t> {
-    /// A station that is not open yet.
-    pub fn new(tables: Tables<'t>, description: &Description) -> Station<'t> {
+impl<'d> Station<'d> {
+    pub fn new(description: &'d Description) -> Station<'d> {
         Station {
-            tables,
-            record: vec![0; description.registers.len()],
-            marks: vec![0; description.variables.len()],
-            operation: [0; OPERATION_WORDS],
-            answer: [0; ANSWER_WORDS],
+            description,
+            opened: None,
         }
+    }
+
+    fn station(&mut self) -> &mut desfanuk::Station<'d> {
+        self.opened.as_mut().expect("an opening comes first")
+    }
+}
+
+fn refused(refusal: Refusal) -> Answer {
+    Answer::Refused(refusal.number())
+}
+
+fn answered(answer: desfanuk::Answer) -> Answer {
+    match answer {
+        desfanuk::Answer::Offer(access) => Answer::Offer(Access {
+            direction: match access.direction {
+                Direction::Read => Part::Read,
+                Direction::Write => Part::Write,
+            },
+            parameter: access.parameter,
+            offset: u32::from(access.offset),
+            byte: access.byte,
+        }),
+        desfanuk::Answer::Done { value, accesses } => Answer::Done { value, accesses },
+        desfanuk::Answer::Refused(refusal) => refused(refusal),
     }
 }
 
 impl Calls for Station<'_> {
     fn open(&mut self, power: &[u8]) -> Answer {
-        proved::open(
-            self.tables,
-            power,
-            &mut self.record,
-            &mut self.marks,
-            &mut self.operation,
-            &mut self.answer,
-        );
-        proved::answer_of(&self.answer)
+        let opened = match &mut self.opened {
+            Some(station) => station.open_again(power),
+            None => desfanuk::Station::open(self.description, power)
+                .map(|station| self.opened = Some(station)),
+        };
+        opened.map_or_else(refused, |()| Answer::Opened)
     }
 
     fn begin_read(&mut self, variable: usize) -> Answer {
-        proved::begin_read(
-            self.tables,
-            &self.record,
-            &self.marks,
-            &mut self.operation,
-            variable,
-            &mut self.answer,
-        );
-        proved::answer_of(&self.answer)
+        answered(self.station().begin_read(variable))
     }
 
     fn begin_write(&mut self, variable: usize, value: i64) -> Answer {
-        proved::begin_write(
-            self.tables,
-            &self.record,
-            &self.marks,
-            &mut self.operation,
-            variable,
-            value,
-            &mut self.answer,
-        );
-        proved::answer_of(&self.answer)
+        answered(self.station().begin_write(variable, value))
     }
 
     fn confirm(&mut self, byte: u8) -> Answer {
-        proved::confirm(
-            self.tables,
-            &mut self.record,
-            &mut self.marks,
-            &mut self.operation,
-            byte,
-            &mut self.answer,
-        );
-        proved::answer_of(&self.answer)
+        answered(self.station().confirm(byte))
     }
 
     fn abandon(&mut self) -> Answer {
-        proved::abandon(
-            self.tables,
-            &self.record,
-            &mut self.marks,
-            &mut self.operation,
-            &mut self.answer,
-        );
-        proved::answer_of(&self.answer)
+        let abandoned = self.station().abandon();
+        abandoned.map_or_else(refused, |()| Answer::Abandoned)
     }
 }

@@ -1,23 +1,19 @@
 //! Demand 3, played through the proved station: a board whose registers are plain storage.
 
-use compare::both::lent;
 use compare::seen::Seen;
 use compare::station::Station;
 use second::board::{plain, some_value, to_its_end, watch, Board, Calls, Ended};
-use second::generate::{valid, Random, TableSet};
-use second::{load, tables, Answer, Description, Verdict};
+use second::generate::{valid, Random};
+use second::{load, Answer, Description, Verdict};
 
-fn described(random: &mut Random) -> (Description, TableSet) {
-    let Verdict::Accepted { description } = load(&valid(random)) else {
+/// A description, in both implementations.
+fn described(random: &mut Random) -> (Description, desfanuk::Description) {
+    let text = valid(random);
+    let Verdict::Accepted { description } = load(&text) else {
         panic!("a valid text is accepted");
     };
-    let (parameters, registers, variables) = tables(&description);
-    let set = TableSet {
-        parameters,
-        registers,
-        variables,
-    };
-    (description, set)
+    let proved = desfanuk::Description::load(text).expect("by both");
+    (description, proved)
 }
 
 fn some_bytes(random: &mut Random, count: usize) -> Vec<u8> {
@@ -32,11 +28,11 @@ fn reading_gives_the_value_last_finished() {
     let mut random = Random::new(301);
     let mut seen = Seen::default();
     for _ in 0..400 {
-        let (description, set) = described(&mut random);
+        let (description, proved) = described(&mut random);
         if description.variables.is_empty() {
             continue;
         }
-        let mut station = Station::new(lent(&set), &description);
+        let mut station = Station::new(&proved);
         for _ in 0..3 {
             watch(&mut random, &description, &mut station, 100, &mut |what| {
                 seen.note(what)
@@ -57,7 +53,7 @@ fn boards_end_equal_exactly_when_the_values_are() {
     let mut random = Random::new(302);
     let mut seen = Seen::default();
     for _ in 0..1500 {
-        let (description, set) = described(&mut random);
+        let (description, proved) = described(&mut random);
         let mut order: Vec<usize> = (0..description.variables.len())
             .filter(|index| plain(&description.variables[*index]))
             .collect();
@@ -87,7 +83,7 @@ fn boards_end_equal_exactly_when_the_values_are() {
         let mut ends = Vec::new();
         for values in [&first, &second] {
             random.shuffle(&mut order);
-            let mut station = Station::new(lent(&set), &description);
+            let mut station = Station::new(&proved);
             let mut board = Board::new(&description, &power);
             assert_eq!(station.open(&power), Answer::Opened);
             for &index in &order {

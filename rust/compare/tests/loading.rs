@@ -3,6 +3,7 @@
 use compare::both::lent;
 use compare::proved;
 use compare::seen::Seen;
+use desfanuk::raw;
 use second::generate::{self, valid, Random, TableSet};
 use second::{
     frame, load_into, Loaded, PARAMETER_WORDS, REGISTER_WORDS, TEXT_BYTES, VARIABLE_WORDS,
@@ -44,7 +45,7 @@ fn agreed(random: &mut Random, text: &[u8], lengths: [usize; 3], seen: &mut Seen
     );
     match want {
         Loaded::Accepted { .. } => {
-            assert!(proved::sound(lent(&first)));
+            assert!(raw::sound(proved::words(lent(&first))));
             seen.note("accepted");
         }
         Loaded::Refused { number, .. } => seen.note(format!("refused {number:02}")),
@@ -208,7 +209,7 @@ fn room_for_the_verdict() {
         for length in 0..8 {
             let [mut p, mut r, mut v] = SIZES.map(|size| vec![9; size]);
             let mut words = vec![77; length];
-            let got = proved::load_words(text, &mut p, &mut r, &mut v, &mut words);
+            let got = raw::load(text, &mut p, &mut r, &mut v, &mut words);
             assert_eq!(got, number);
             for (at, word) in words.iter().enumerate() {
                 assert_eq!(*word, *want.get(at).unwrap_or(&77));

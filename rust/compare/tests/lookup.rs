@@ -1,12 +1,12 @@
 //! Name lookups, in both implementations, over any tables, texts and names.
 
-use compare::proved;
 use compare::seen::Seen;
+use desfanuk::raw;
 use second::generate::{damaged_tables, valid, Random};
 use second::{load, tables, Description, Verdict};
 
 fn agreed(text: &[u8], variables: &[u32], name: &[u8], seen: &mut Seen) -> Option<usize> {
-    let got = proved::lookup(text, variables, name);
+    let got = raw::lookup(text, variables, name);
     assert_eq!(got, second::lookup(text, variables, name));
     seen.note(match got {
         Some(_) => "found",

@@ -3,11 +3,12 @@
 use compare::both::lent;
 use compare::proved;
 use compare::seen::Seen;
+use desfanuk::raw;
 use second::generate::{damaged_tables, sound_tables, Random, TableSet};
 
 /// Whether both find the tables sound.
 fn agreed(set: &TableSet, seen: &mut Seen) -> bool {
-    let got = proved::sound(lent(set));
+    let got = raw::sound(proved::words(lent(set)));
     let want = second::sound(&set.parameters, &set.registers, &set.variables);
     assert_eq!(got, want, "{set:?}");
     seen.note(if got { "sound" } else { "not sound" });

@@ -2,8 +2,9 @@
 //! abandoned at every step, over sound and damaged tables.
 
 use compare::both::{lent, Both};
-use compare::proved::{self, ANSWER_WORDS};
+use compare::proved;
 use compare::seen::Seen;
+use desfanuk::raw::{self, ANSWER_WORDS};
 use second::generate::{damaged_tables, every_step, run, sound_tables, valid, Random, TableSet};
 use second::replay::Call;
 use second::{load, tables, Answer, Description, Operation, Verdict};
@@ -213,7 +214,7 @@ fn on_words(
     operation: &[u64],
     answer_len: usize,
 ) -> Vec<(u64, Vec<i64>, Vec<u64>)> {
-    let tables = lent(set);
+    let tables = proved::words(lent(set));
     (0..5)
         .map(|call| {
             let (mut record, mut marks) = (vec![7; 3], vec![0; 3]);
@@ -221,11 +222,11 @@ fn on_words(
             let mut answer = vec![-5; answer_len];
             let (r, m, o, a) = (&mut record, &mut marks, &mut words[..], &mut answer[..]);
             let number = match call {
-                0 => proved::begin_read(tables, r, m, o, 0, a),
-                1 => proved::begin_write(tables, r, m, o, 0, 5, a),
-                2 => proved::confirm(tables, r, m, o, 0, a),
-                3 => proved::abandon(tables, r, m, o, a),
-                _ => proved::open(tables, &[1, 2, 3], r, m, o, a),
+                0 => raw::begin_read(tables, r, m, o, 0, a),
+                1 => raw::begin_write(tables, r, m, o, 0, 5, a),
+                2 => raw::confirm(tables, r, m, o, 0, a),
+                3 => raw::abandon(tables, r, m, o, a),
+                _ => raw::open(tables, &[1, 2, 3], r, m, o, a),
             };
             if call < 4 && number != 0 {
                 assert_eq!((&record, &marks), (&vec![7; 3], &vec![0; 3]));

@@ -8,7 +8,8 @@ use std::hint::black_box;
 use std::time::Instant;
 
 use compare::both::lent;
-use compare::proved::{self, ANSWER_WORDS, OPERATION_WORDS};
+use compare::proved;
+use desfanuk::raw::{self, ANSWER_WORDS, OPERATION_WORDS};
 use second::generate::{valid, Random, TableSet};
 use second::{Loaded, PARAMETER_WORDS, REGISTER_WORDS, TEXT_BYTES, VARIABLE_WORDS};
 
@@ -108,14 +109,14 @@ fn station_row(name: &str, text: &[u8]) {
     else {
         panic!("{loaded}");
     };
-    let tables = lent(&set);
+    let tables = proved::words(lent(&set));
     let (mut record, mut marks) = (vec![0; registers], vec![0; variables]);
     let mut answer = [0; ANSWER_WORDS];
     let mut operation = [0; OPERATION_WORDS];
     let begin = best(|| {
         for _ in 0..CALLS {
             operation = [0; OPERATION_WORDS];
-            black_box(proved::begin_write(
+            black_box(raw::begin_write(
                 tables,
                 &record,
                 &marks,
@@ -131,7 +132,7 @@ fn station_row(name: &str, text: &[u8]) {
     let confirm = best(|| {
         for _ in 0..CALLS {
             operation = begun;
-            black_box(proved::confirm(
+            black_box(raw::confirm(
                 tables,
                 &mut record,
                 &mut marks,
@@ -143,7 +144,7 @@ fn station_row(name: &str, text: &[u8]) {
     });
     let sound = best(|| {
         for _ in 0..CALLS {
-            black_box(proved::sound(tables));
+            black_box(raw::sound(tables));
         }
     });
     let calls = CALLS as f64;

@@ -20,4 +20,5 @@ fn main() {
     println!("cargo:rerun-if-changed={}", archive.display());
     println!("cargo:rustc-link-search=native={}", folder.display());
     println!("cargo:rustc-link-lib=static=abi");
+    println!("cargo:rustc-env=DESFANUK_ARCHIVE={}", archive.display());
 }

@@ -1,0 +1,100 @@
+//! A score in two registers of a scoring board: written, read back, abandoned midway, and written
+//! again. The board is a simulated one, four bytes of storage.
+//!
+//!     cargo run --offline --release -p desfanuk --example score [DESCRIPTION]
+//!
+//! include/score.c is the same program in C.
+
+use std::error::Error;
+use std::{env, fs};
+
+use desfanuk::{Access, Description, Direction, Done, Ports, Station, Stopped};
+
+const SCORING: &str = concat!(env!("CARGO_MANIFEST_DIR"), "/../../boards/scoring.devil");
+
+/// The board: a byte for each offset, and how many accesses it still answers. It notes what
+/// happens.
+struct Board {
+    bytes: [u8; 4],
+    patience: usize,
+    notes: String,
+}
+
+/// The board did not answer.
+struct TimedOut;
+
+impl Ports for Board {
+    type Failure = TimedOut;
+
+    fn perform(&mut self, access: Access) -> Result<u8, TimedOut> {
+        if self.patience == 0 {
+            return Err(TimedOut);
+        }
+        self.patience -= 1;
+        let Access { offset, byte, .. } = access;
+        let cell = &mut self.bytes[usize::from(offset)];
+        self.notes += &match access.direction {
+            Direction::Read => format!("  read at base + {offset}: 0x{cell:02X}\n"),
+            Direction::Write => {
+                *cell = byte;
+                format!("  write 0x{byte:02X} at base + {offset}\n")
+            }
+        };
+        Ok(*cell)
+    }
+}
+
+/// How a read or write ended.
+fn ending(ended: Result<Done, Stopped<TimedOut>>) -> String {
+    match ended {
+        Ok(Done { value, accesses }) => format!("  done: {value}, in {accesses} accesses\n"),
+        Err(Stopped::Refused(refusal)) => format!("  {refusal}\n"),
+        Err(Stopped::Failed(TimedOut)) => "  the board does not answer: abandoned\n".to_string(),
+    }
+}
+
+/// What happens on a board with this description.
+pub fn story(text: Vec<u8>) -> Result<String, Box<dyn Error>> {
+    let description = Description::load(text)?;
+    let score = description.variable("score").ok_or("it has no score")?;
+    let mut station = Station::open(&description, &vec![0; description.registers()])?;
+    let mut board = Board {
+        bytes: [0; 4],
+        patience: 0,
+        notes: format!(
+            "The board has {} registers and {} variables.\n",
+            description.registers(),
+            description.variables()
+        ),
+    };
+    // Each with the value to write, or none to read, and the number of accesses that the board
+    // answers.
+    let parts = [
+        ("Write the score 2741.", Some(2741), 2),
+        ("Read it.", None, 2),
+        ("Write 3000, and let the board stop midway.", Some(3000), 1),
+        (
+            "Read the score: its registers hold 2997 now, which nobody gave.",
+            None,
+            2,
+        ),
+        ("Write 3000 again.", Some(3000), 2),
+        ("Read it.", None, 2),
+    ];
+    for (title, value, patience) in parts {
+        board.notes += &format!("{title}\n");
+        board.patience = patience;
+        let ended = match value {
+            Some(value) => station.write(score, value, &mut board),
+            None => station.read(score, &mut board),
+        };
+        board.notes += &ending(ended);
+    }
+    Ok(board.notes)
+}
+
+fn main() -> Result<(), Box<dyn Error>> {
+    let path = env::args().nth(1).unwrap_or_else(|| SCORING.to_string());
+    print!("{}", story(fs::read(path)?)?);
+    Ok(())
+}

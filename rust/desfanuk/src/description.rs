@@ -1,0 +1,209 @@
+//! A description: the text, and the tables that loading it fills.
+
+use std::error::Error;
+use std::fmt;
+
+use crate::raw::{self, PARAMETERS_WORDS, REGISTERS_WORDS, VARIABLES_WORDS, VERDICT_WORDS};
+use crate::Refusal;
+
+/// Words of an entry of each table; its name's place and length come first.
+const PARAMETER_ENTRY: usize = 36;
+const REGISTER_ENTRY: usize = 15;
+const VARIABLE_ENTRY: usize = 59;
+
+/// The answer to a text.
+#[derive(Clone, Copy, Debug, PartialEq, Eq)]
+pub enum Verdict {
+    /// Accepted, with the counts of parameters, registers and variables.
+    Accepted {
+        parameters: usize,
+        registers: usize,
+        variables: usize,
+    },
+    /// Refused by the first rule broken.
+    Refused(Refused),
+}
+
+/// The first rule that a text breaks.
+#[derive(Clone, Copy, Debug, PartialEq, Eq)]
+pub struct Refused {
+    pub refusal: Refusal,
+    /// Where in the text, as a number of bytes before it.
+    pub place: usize,
+}
+
+impl Verdict {
+    fn of(words: [u64; VERDICT_WORDS]) -> Verdict {
+        let number = |word: u64| usize::try_from(word).expect("a number of a verdict");
+        match words {
+            [0, refusal, place, 0] => Verdict::Refused(Refused {
+                refusal: u8::try_from(refusal)
+                    .ok()
+                    .and_then(Refusal::of)
+                    .expect("a refusal's number"),
+                place: number(place),
+            }),
+            [1, parameters, registers, variables] => Verdict::Accepted {
+                parameters: number(parameters),
+                registers: number(registers),
+                variables: number(variables),
+            },
+            _ => unreachable!("loading tells a verdict, not {words:?}"),
+        }
+    }
+}
+
+/// As the verdict program writes it: `accepted P R V` or `refused N PLACE`.
+impl fmt::Display for Verdict {
+    fn fmt(&self, f: &mut fmt::Formatter<'_>) -> fmt::Result {
+        match self {
+            Verdict::Accepted {
+                parameters,
+                registers,
+                variables,
+            } => write!(f, "accepted {parameters} {registers} {variables}"),
+            Verdict::Refused(Refused { refusal, place }) => {
+                write!(f, "refused {} {place}", refusal.number())
+            }
+        }
+    }
+}
+
+impl fmt::Display for Refused {
+    fn fmt(&self, f: &mut fmt::Formatter<'_>) -> fmt::Result {
+        write!(f, "{}, at byte {}", self.refusal, self.place)
+    }
+}
+
+impl Error for Refused {}
+
+/// The three tables of docs/TABLES.md, of their stated sizes. No entry is in use at first.
+#[derive(Clone, PartialEq, Eq)]
+pub struct Tables {
+    parameters: Box<[u32]>,
+    registers: Box<[u32]>,
+    variables: Box<[u32]>,
+}
+
+impl Tables {
+    pub fn new() -> Tables {
+        let empty = |words: usize| vec![0; words].into_boxed_slice();
+        Tables {
+            parameters: empty(PARAMETERS_WORDS),
+            registers: empty(REGISTERS_WORDS),
+            variables: empty(VARIABLES_WORDS),
+        }
+    }
+
+    /// Loads a text. Accepting fills the tables with its description; a refusal leaves them without
+    /// an entry, but one by 2, which leaves them as they were.
+    pub fn load(&mut self, text: &[u8]) -> Verdict {
+        let mut words = [0; VERDICT_WORDS];
+        raw::load(
+            text,
+            &mut self.parameters,
+            &mut self.registers,
+            &mut self.variables,
+            &mut words,
+        );
+        Verdict::of(words)
+    }
+
+    /// The words, lent to the calls.
+    pub fn words(&self) -> raw::Tables<'_> {
+        raw::Tables {
+            parameters: &self.parameters,
+            registers: &self.registers,
+            variables: &self.variables,
+        }
+    }
+}
+
+impl Default for Tables {
+    fn default() -> Tables {
+        Tables::new()
+    }
+}
+
+impl fmt::Debug for Tables {
+    fn fmt(&self, f: &mut fmt::Formatter<'_>) -> fmt::Result {
+        f.debug_struct("Tables")
+            .field("parameters", &self.parameters[0])
+            .field("registers", &self.registers[0])
+            .field("variables", &self.variables[0])
+            .finish_non_exhaustive()
+    }
+}
+
+/// An accepted text with its tables. Parameters, registers and variables are known by their index,
+/// from 0 in the order of the text.
+#[derive(Clone, Debug, PartialEq, Eq)]
+pub struct Description {
+    text: Vec<u8>,
+    tables: Tables,
+}
+
+impl Description {
+    /// Loads a text: its description, or the first rule that it breaks.
+    pub fn load(text: impl Into<Vec<u8>>) -> Result<Description, Refused> {
+        let text = text.into();
+        let mut tables = Tables::new();
+        match tables.load(&text) {
+            Verdict::Accepted { .. } => Ok(Description { text, tables }),
+            Verdict::Refused(refused) => Err(refused),
+        }
+    }
+
+    pub fn text(&self) -> &[u8] {
+        &self.text
+    }
+
+    pub fn tables(&self) -> &Tables {
+        &self.tables
+    }
+
+    /// How many parameters it has.
+    pub fn parameters(&self) -> usize {
+        self.tables.parameters[0] as usize
+    }
+
+    /// How many registers it has.
+    pub fn registers(&self) -> usize {
+        self.tables.registers[0] as usize
+    }
+
+    /// How many variables it has.
+    pub fn variables(&self) -> usize {
+        self.tables.variables[0] as usize
+    }
+
+    /// The index of the variable of this name.
+    pub fn variable(&self, name: &str) -> Option<usize> {
+        raw::lookup(&self.text, &self.tables.variables, name.as_bytes())
+    }
+
+    /// The name of a parameter, if there is one of this index.
+    pub fn parameter_name(&self, index: usize) -> Option<&str> {
+        self.name(&self.tables.parameters, PARAMETER_ENTRY, index)
+    }
+
+    /// The name of a register, if there is one of this index.
+    pub fn register_name(&self, index: usize) -> Option<&str> {
+        self.name(&self.tables.registers, REGISTER_ENTRY, index)
+    }
+
+    /// The name of a variable, if there is one of this index.
+    pub fn variable_name(&self, index: usize) -> Option<&str> {
+        self.name(&self.tables.variables, VARIABLE_ENTRY, index)
+    }
+
+    fn name(&self, table: &[u32], entry: usize, index: usize) -> Option<&str> {
+        if index >= table[0] as usize {
+            return None;
+        }
+        let place = table[1 + entry * index] as usize;
+        let length = table[2 + entry * index] as usize;
+        let name = &self.text[place..place + length];
+        Some(std::str::from_utf8(name).expect("a name is letters, digits and underscores"))
+    }
+}

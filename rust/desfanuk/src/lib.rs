@@ -1,0 +1,55 @@
+//! Register descriptions in Devil, and the reads and writes of their variables, for station
+//! software.
+//!
+//! A board maker's description is loaded ([`Description::load`]): it is accepted with its
+//! variables, or refused with the number of the first rule broken and its place. A station is
+//! opened over it ([`Station::open`]) with the bytes that the board's registers hold at power-on.
+//! From then on each read or write of a variable is a run of port accesses, offered one at a time:
+//! the station performs the access on offer and confirms it, or abandons the operation. An
+//! operation is done at its last confirmation and never sooner, and a variable whose write was
+//! abandoned cannot be read until a write of it finishes.
+//!
+//! What the calls answer is proved (crates/ of this repository; the archive `libabi.a` is linked).
+//! This crate adds types: nothing here can be called wrongly. `rt staticlib abi` makes the archive.
+//!
+//! ```
+//! use desfanuk::{Access, Answer, Description, Direction, Refusal, Station};
+//!
+//! let text = "device scoring(base : bit[8] port @ {0..1}) {
+//!     register high = base @ 0, mask '****....' : bit[8];
+//!     register low = base @ 1 : bit[8];
+//!     variable score = high[3..0] # low : int(12);
+//! }";
+//! let description = Description::load(text).expect("a good description");
+//! let score = description.variable("score").expect("it has a score");
+//! let mut station = Station::open(&description, &[0, 0]).expect("a byte for each register");
+//!
+//! // Writing the score takes two accesses, the high register first.
+//! let high = Access { direction: Direction::Write, parameter: 0, offset: 0, byte: 0x0A };
+//! let low = Access { direction: Direction::Write, parameter: 0, offset: 1, byte: 0xB5 };
+//! assert_eq!(station.begin_write(score, 0xAB5), Answer::Offer(high));
+//! assert_eq!(station.confirm(0), Answer::Offer(low));
+//! assert_eq!(station.confirm(0), Answer::Done { value: 0xAB5, accesses: 2 });
+//!
+//! // A write that stops midway leaves nothing that could be taken for a score.
+//! assert_eq!(station.begin_write(score, 7), Answer::Offer(Access { byte: 0, ..high }));
+//! assert_eq!(station.confirm(0), Answer::Offer(Access { byte: 7, ..low }));
+//! assert_eq!(station.abandon(), Ok(()));
+//! assert_eq!(station.begin_read(score), Answer::Refused(Refusal::HalfWritten));
+//! ```
+//!
+//! Where a function performs the accesses, [`Station::read`] and [`Station::write`] do the
+//! confirming, and abandon the operation when it fails: see [`Ports`]. `examples/score.rs` is a
+//! whole program.
+
+mod description;
+mod refusal;
+mod station;
+mod through;
+
+pub mod raw;
+
+pub use description::{Description, Refused, Tables, Verdict};
+pub use refusal::Refusal;
+pub use station::{Access, Answer, Direction, Operation, Station};
+pub use through::{Done, Ports, Stopped};

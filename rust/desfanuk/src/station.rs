@@ -1,0 +1,220 @@
+//! A station: a description in use, with the record, the marks and the operation in hand.
+
+use crate::raw::{self, ANSWER_WORDS, OPERATION_WORDS};
+use crate::{Description, Refusal};
+
+/// Whether an access reads or writes.
+#[derive(Clone, Copy, Debug, PartialEq, Eq)]
+pub enum Direction {
+    Read,
+    Write,
+}
+
+/// One port access.
+#[derive(Clone, Copy, Debug, PartialEq, Eq)]
+pub struct Access {
+    pub direction: Direction,
+    /// The parameter's index; the station knows at which port it is.
+    pub parameter: usize,
+    /// The offset from that port.
+    pub offset: u8,
+    /// The byte to write; 0 when reading.
+    pub byte: u8,
+}
+
+/// What a begin or a confirmation answers.
+#[derive(Clone, Copy, Debug, PartialEq, Eq)]
+#[must_use = "an operation goes on until it is done or abandoned"]
+pub enum Answer {
+    /// This access is to be performed next, and then confirmed.
+    Offer(Access),
+    /// The operation is over: the value read or written, and the number of its accesses.
+    Done { value: i64, accesses: usize },
+    /// Nothing changed, and nothing is offered.
+    Refused(Refusal),
+}
+
+/// The operation in hand. Its step is the number of its accesses confirmed so far; `gathered` and
+/// `value` are the bits of the variable.
+#[derive(Clone, Copy, Debug, PartialEq, Eq)]
+pub enum Operation {
+    Idle,
+    Reading {
+        variable: usize,
+        step: usize,
+        gathered: u32,
+    },
+    Writing {
+        variable: usize,
+        step: usize,
+        value: u32,
+    },
+}
+
+/// A description in use, from an opening on.
+#[derive(Clone, Debug)]
+pub struct Station<'d> {
+    description: &'d Description,
+    record: Vec<u8>,
+    marks: Vec<u8>,
+    operation: [u64; OPERATION_WORDS],
+}
+
+impl<'d> Station<'d> {
+    /// Opens a description with the byte that each register holds at power-on. Fewer bytes than
+    /// registers are refused by 21; what is over is ignored.
+    pub fn open(description: &'d Description, power_on: &[u8]) -> Result<Station<'d>, Refusal> {
+        let mut station = Station {
+            description,
+            record: vec![0; description.registers()],
+            marks: vec![0; description.variables()],
+            operation: [0; OPERATION_WORDS],
+        };
+        station.open_again(power_on)?;
+        Ok(station)
+    }
+
+    /// Opens it anew, as after the board was switched off and on: ends the operation in hand and
+    /// clears every mark. Refused as [`Station::open`] is.
+    pub fn open_again(&mut self, power_on: &[u8]) -> Result<(), Refusal> {
+        let mut answer = [0; ANSWER_WORDS];
+        raw::open(
+            self.description.tables().words(),
+            power_on,
+            &mut self.record,
+            &mut self.marks,
+            &mut self.operation,
+            &mut answer,
+        );
+        unless_refused(answer)
+    }
+
+    /// Begins the read of a variable.
+    pub fn begin_read(&mut self, variable: usize) -> Answer {
+        let mut answer = [0; ANSWER_WORDS];
+        raw::begin_read(
+            self.description.tables().words(),
+            &self.record,
+            &self.marks,
+            &mut self.operation,
+            variable,
+            &mut answer,
+        );
+        answered(answer)
+    }
+
+    /// Begins the write of a variable.
+    pub fn begin_write(&mut self, variable: usize, value: i64) -> Answer {
+        let mut answer = [0; ANSWER_WORDS];
+        raw::begin_write(
+            self.description.tables().words(),
+            &self.record,
+            &self.marks,
+            &mut self.operation,
+            variable,
+            value,
+            &mut answer,
+        );
+        answered(answer)
+    }
+
+    /// Confirms that the access on offer was performed, once. The byte is what was read; for a
+    /// write it is ignored.
+    pub fn confirm(&mut self, byte: u8) -> Answer {
+        let mut answer = [0; ANSWER_WORDS];
+        raw::confirm(
+            self.description.tables().words(),
+            &mut self.record,
+            &mut self.marks,
+            &mut self.operation,
+            byte,
+            &mut answer,
+        );
+        answered(answer)
+    }
+
+    /// Abandons the operation in hand, whether or not the access on offer was performed. A variable
+    /// whose write is abandoned is half-written: reading it is refused (28) until a write of it
+    /// finishes.
+    pub fn abandon(&mut self) -> Result<(), Refusal> {
+        let mut answer = [0; ANSWER_WORDS];
+        raw::abandon(
+            self.description.tables().words(),
+            &self.record,
+            &mut self.marks,
+            &mut self.operation,
+            &mut answer,
+        );
+        unless_refused(answer)
+    }
+
+    pub fn description(&self) -> &'d Description {
+        self.description
+    }
+
+    /// For each register the byte last confirmed as written, or else its power-on byte.
+    pub fn record(&self) -> &[u8] {
+        &self.record
+    }
+
+    /// Whether an abandoned write left the variable half-written.
+    pub fn half_written(&self, variable: usize) -> bool {
+        self.marks.get(variable).is_some_and(|mark| *mark != 0)
+    }
+
+    pub fn operation(&self) -> Operation {
+        let number = |word: u64| usize::try_from(word).expect("a number of an operation");
+        let bits = |word: u64| u32::try_from(word).expect("at most 32 bits");
+        match self.operation {
+            [0, ..] => Operation::Idle,
+            [1, variable, step, gathered] => Operation::Reading {
+                variable: number(variable),
+                step: number(step),
+                gathered: bits(gathered),
+            },
+            [2, variable, step, value] => Operation::Writing {
+                variable: number(variable),
+                step: number(step),
+                value: bits(value),
+            },
+            words => unreachable!("the calls leave an operation, not {words:?}"),
+        }
+    }
+}
+
+/// The refusal that words tell, if they do.
+fn unless_refused(words: [i64; ANSWER_WORDS]) -> Result<(), Refusal> {
+    match words {
+        [0, number, 0, 0, 0] => Err(u8::try_from(number)
+            .ok()
+            .and_then(Refusal::of)
+            .expect("a refusal's number")),
+        _ => Ok(()),
+    }
+}
+
+/// The answer of a begin or a confirmation that words tell.
+fn answered(words: [i64; ANSWER_WORDS]) -> Answer {
+    if let Err(refusal) = unless_refused(words) {
+        return Answer::Refused(refusal);
+    }
+    let byte = |word: i64| u8::try_from(word).expect("a byte");
+    let number = |word: i64| usize::try_from(word).expect("a number of an answer");
+    match words {
+        [2, direction, parameter, offset, written] => Answer::Offer(Access {
+            direction: if direction == 0 {
+                Direction::Read
+            } else {
+                Direction::Write
+            },
+            parameter: number(parameter),
+            offset: byte(offset),
+            byte: byte(written),
+        }),
+        [3, value, accesses, 0, 0] => Answer::Done {
+            value,
+            accesses: number(accesses),
+        },
+        _ => unreachable!("a begin or a confirmation answers, not {words:?}"),
+    }
+}

@@ -1,0 +1,88 @@
+//! Whole reads and writes, through whatever performs the accesses.
+
+use std::error::Error;
+use std::fmt;
+
+use crate::{Access, Answer, Refusal, Station};
+
+/// What performs accesses: the station's own way to its ports.
+pub trait Ports {
+    /// Why an access was not performed, or was perhaps not performed, as after a time-out.
+    type Failure;
+
+    /// Performs an access, once. Gives the byte that was read; for a write any byte does.
+    fn perform(&mut self, access: Access) -> Result<u8, Self::Failure>;
+}
+
+/// A read or write that is done.
+#[derive(Clone, Copy, Debug, PartialEq, Eq)]
+pub struct Done {
+    /// The value read or written.
+    pub value: i64,
+    /// How many accesses it took.
+    pub accesses: usize,
+}
+
+/// Why a read or write is not done.
+#[derive(Clone, Copy, Debug, PartialEq, Eq)]
+pub enum Stopped<F> {
+    /// It was refused, and no access was performed.
+    Refused(Refusal),
+    /// An access failed, and the operation was abandoned: a write leaves its variable half-written.
+    Failed(F),
+}
+
+impl<F: fmt::Display> fmt::Display for Stopped<F> {
+    fn fmt(&self, f: &mut fmt::Formatter<'_>) -> fmt::Result {
+        match self {
+            Stopped::Refused(refusal) => refusal.fmt(f),
+            Stopped::Failed(failure) => write!(f, "abandoned: {failure}"),
+        }
+    }
+}
+
+impl<F: fmt::Debug + fmt::Display> Error for Stopped<F> {}
+
+impl Station<'_> {
+    /// Reads a variable, access by access.
+    pub fn read<P: Ports>(
+        &mut self,
+        variable: usize,
+        ports: &mut P,
+    ) -> Result<Done, Stopped<P::Failure>> {
+        let begun = self.begin_read(variable);
+        self.carry_out(begun, ports)
+    }
+
+    /// Writes a variable, access by access.
+    pub fn write<P: Ports>(
+        &mut self,
+        variable: usize,
+        value: i64,
+        ports: &mut P,
+    ) -> Result<Done, Stopped<P::Failure>> {
+        let begun = self.begin_write(variable, value);
+        self.carry_out(begun, ports)
+    }
+
+    fn carry_out<P: Ports>(
+        &mut self,
+        begun: Answer,
+        ports: &mut P,
+    ) -> Result<Done, Stopped<P::Failure>> {
+        let mut answer = begun;
+        loop {
+            answer = match answer {
+                Answer::Offer(access) => match ports.perform(access) {
+                    Ok(byte) => self.confirm(byte),
+                    Err(failure) => {
+                        self.abandon().expect("an operation is in hand");
+                        return Err(Stopped::Failed(failure));
+                    }
+                },
+                Answer::Done { value, accesses } => return Ok(Done { value, accesses }),
+                Answer::Refused(refusal) => return Err(Stopped::Refused(refusal)),
+            };
+        }
+    }
+}

@@ -1,0 +1,127 @@
+//! Loading, through the crate's types: verdicts, names, and what a refusal is called.
+
+use std::fs;
+use std::path::PathBuf;
+
+use desfanuk::{Description, Refusal, Refused, Tables, Verdict};
+
+/// Document 01's text A.
+const A: &str = "device d(base:bit[8] port){register r=base:bit[8];variable v=r:int(8);}";
+
+fn of_repository(path: &str) -> PathBuf {
+    PathBuf::from(env!("CARGO_MANIFEST_DIR"))
+        .join("../..")
+        .join(path)
+}
+
+fn verdict(text: &str) -> String {
+    Tables::new().load(text.as_bytes()).to_string()
+}
+
+#[test]
+fn verdicts_of_the_marked_texts() {
+    assert_eq!(verdict(A), "accepted 1 1 1");
+    assert_eq!(verdict(""), "refused 4 0");
+    assert_eq!(verdict(&A[..70]), "refused 4 70");
+    for (old, new, want) in [
+        ("v=r", "v=q", "refused 7 61"),
+        ("int(8)", "int(7)", "refused 12 59"),
+        ("v=r", "v=r[0..7]", "refused 11 59"),
+        ("v=r:int(8)", "v=r[7..1]:int(7)", "refused 16 36"),
+    ] {
+        assert_eq!(verdict(&A.replace(old, new)), want, "{new}");
+    }
+}
+
+/// Each load says all of the tables: nothing of the text before is left.
+#[test]
+fn tables_are_loaded_again() {
+    let mut tables = Tables::new();
+    assert_eq!(tables.load(b"device"), Tables::new().load(b"device"));
+    assert_eq!(tables, Tables::new());
+    tables.load(A.as_bytes());
+    assert_ne!(tables, Tables::new());
+    let accepted = tables.clone();
+    assert_eq!(tables.load(&[b' '; 8193]).to_string(), "refused 2 0");
+    assert_eq!(tables, accepted);
+    tables.load(b"device");
+    assert_eq!(tables, Tables::new());
+}
+
+#[test]
+fn names_are_looked_up_and_told() {
+    let description = Description::load(A).expect("text A");
+    assert_eq!(description.text(), A.as_bytes());
+    assert_eq!(description.variable("v"), Some(0));
+    for name in ["", "r", "base", "d", "V", "vv"] {
+        assert_eq!(description.variable(name), None, "{name}");
+    }
+    assert_eq!(description.parameter_name(0), Some("base"));
+    assert_eq!(description.register_name(0), Some("r"));
+    assert_eq!(description.variable_name(0), Some("v"));
+    assert_eq!(description.parameter_name(1), None);
+    assert_eq!(description.register_name(1), None);
+    assert_eq!(description.variable_name(1), None);
+}
+
+#[test]
+fn a_refused_text_is_told_in_words() {
+    let refused = Description::load(A.replace("v=r", "v=q")).expect_err("no q");
+    let Refused { refusal, place } = refused;
+    assert_eq!((refusal, place), (Refusal::Undeclared, 61));
+    assert_eq!(
+        refused.to_string(),
+        "refused (7): a port names no parameter, or a piece no register, declared earlier, at byte 61"
+    );
+}
+
+/// Every board of the repository, each variable found by its own name.
+#[test]
+fn every_board_is_accepted() {
+    let mut boards = 0;
+    for entry in fs::read_dir(of_repository("boards")).expect("the folder") {
+        let path = entry.expect("an entry").path();
+        if path
+            .extension()
+            .is_none_or(|extension| extension != "devil")
+        {
+            continue;
+        }
+        let text = fs::read(&path).expect("a board");
+        let verdict = Tables::new().load(&text);
+        let description = Description::load(text).expect("a good description");
+        assert_eq!(
+            verdict,
+            Verdict::Accepted {
+                parameters: description.parameters(),
+                registers: description.registers(),
+                variables: description.variables(),
+            }
+        );
+        for index in 0..description.variables() {
+            let name = description.variable_name(index).expect("its name");
+            assert_eq!(description.variable(name), Some(index));
+        }
+        boards += 1;
+    }
+    assert!(boards >= 10);
+}
+
+/// Each refusal's words are those of docs/REFUSALS.md, links left out, and none is missing.
+#[test]
+fn refusals_are_told_as_documented() {
+    let page = fs::read_to_string(of_repository("docs/REFUSALS.md")).expect("the page");
+    let rows: Vec<(u8, &str)> = page
+        .lines()
+        .filter_map(|line| {
+            let mut cells = line.split('|').map(str::trim).skip(1);
+            let number = cells.next()?.parse().ok()?;
+            Some((number, cells.next()?.split(" ([").next()?))
+        })
+        .collect();
+    let told: Vec<(u8, &str)> = Refusal::ALL
+        .iter()
+        .map(|refusal| (refusal.number(), refusal.words()))
+        .collect();
+    assert_eq!(told, rows, "src/refusal.rs beside docs/REFUSALS.md");
+}

@@ -1,0 +1,187 @@
+//! The station, through the crate's types: document 01's cases, every refusal that a caller can
+//! get, and ports that fail.
+
+use desfanuk::{
+    Access, Answer, Description, Direction, Done, Operation, Ports, Refusal, Station, Stopped,
+};
+
+/// A score over two registers; a register with two nibbles; one that is only read, one that is only
+/// written.
+const TEXT: &str = "device d(b:bit[8] port@{0..4}){
+    register hi=b@0,mask '****....':bit[8];register lo=b@1,mask '****....':bit[8];variable x=hi[3..0]#lo[3..0]:signed int(8);
+    register two=b@2:bit[8];variable high=two[7..4]:int(4);variable low=two[3..0]:int(4);
+    register out=write b@3,mask '1..00000':bit[8];variable mode=out[6..5]:int(2);
+    register in=read b@3:bit[8];variable state=in,volatile:int(8);}";
+
+const X: usize = 0;
+const HIGH: usize = 1;
+const LOW: usize = 2;
+const MODE: usize = 3;
+const STATE: usize = 4;
+
+const POWER_ON: [u8; 5] = [0, 0, 0xA5, 0, 0];
+
+fn description() -> Description {
+    Description::load(TEXT).expect("a good description")
+}
+
+fn write(offset: u8, byte: u8) -> Answer {
+    Answer::Offer(Access {
+        direction: Direction::Write,
+        parameter: 0,
+        offset,
+        byte,
+    })
+}
+
+fn read(offset: u8) -> Answer {
+    Answer::Offer(Access {
+        direction: Direction::Read,
+        parameter: 0,
+        offset,
+        byte: 0,
+    })
+}
+
+fn done(value: i64, accesses: usize) -> Answer {
+    Answer::Done { value, accesses }
+}
+
+#[test]
+fn the_cases_of_document_01() {
+    let description = description();
+    let mut station = Station::open(&description, &POWER_ON).expect("enough bytes");
+    assert_eq!(station.begin_write(MODE, 2), write(3, 0xC0));
+    assert_eq!(station.confirm(0), done(2, 1));
+    assert_eq!(station.begin_write(X, -2), write(0, 0x0F));
+    assert_eq!(station.confirm(0), write(1, 0x0E));
+    assert_eq!(station.confirm(0), done(-2, 2));
+    assert_eq!(station.begin_read(X), read(0));
+    assert_eq!(station.confirm(0xAF), read(1));
+    assert_eq!(station.confirm(0x5E), done(-2, 2));
+    assert_eq!(station.begin_write(LOW, 3), write(2, 0xA3));
+    assert_eq!(station.confirm(0), done(3, 1));
+    assert_eq!(station.begin_read(HIGH), read(2));
+    assert_eq!(station.confirm(0xA3), done(10, 1));
+    assert_eq!(station.record(), [0x0F, 0x0E, 0xA3, 0xC0, 0]);
+}
+
+#[test]
+fn every_refusal_of_a_caller() {
+    let description = description();
+    let opened = Station::open(&description, &POWER_ON[..4]);
+    assert_eq!(opened.expect_err("too few"), Refusal::ShortRecord);
+    let mut station = Station::open(&description, &POWER_ON).expect("enough bytes");
+    assert_eq!(station.confirm(0), Answer::Refused(Refusal::Idle));
+    assert_eq!(station.abandon(), Err(Refusal::Idle));
+    for (variable, refusal) in [(5, Refusal::NoVariable), (MODE, Refusal::NoPart)] {
+        assert_eq!(station.begin_read(variable), Answer::Refused(refusal));
+    }
+    for (variable, value, refusal) in [
+        (usize::MAX, 0, Refusal::NoVariable),
+        (STATE, 0, Refusal::NoPart),
+        (MODE, 4, Refusal::OutOfRange),
+        (X, 128, Refusal::OutOfRange),
+        (X, i64::MIN, Refusal::OutOfRange),
+    ] {
+        let answer = station.begin_write(variable, value);
+        assert_eq!(answer, Answer::Refused(refusal));
+    }
+    assert_eq!(station.begin_read(X), read(0));
+    assert_eq!(station.begin_read(9), Answer::Refused(Refusal::Busy));
+    assert_eq!(station.record(), POWER_ON);
+}
+
+#[test]
+fn an_abandoned_write_is_half_written_until_one_finishes() {
+    let description = description();
+    let mut station = Station::open(&description, &POWER_ON).expect("enough bytes");
+    assert_eq!(station.begin_write(X, 0x35), write(0, 0x03));
+    assert_eq!(station.confirm(0), write(1, 0x05));
+    let in_hand = Operation::Writing {
+        variable: X,
+        step: 1,
+        value: 0x35,
+    };
+    assert_eq!(station.operation(), in_hand);
+    assert_eq!(station.abandon(), Ok(()));
+    assert_eq!(station.operation(), Operation::Idle);
+    assert!(station.half_written(X) && !station.half_written(LOW));
+    let half = Answer::Refused(Refusal::HalfWritten);
+    assert_eq!(station.begin_read(X), half);
+    // Its neighbours are not touched by it, and a finished write ends it.
+    assert_eq!(station.begin_read(LOW), read(2));
+    assert_eq!(station.abandon(), Ok(()));
+    assert_eq!(station.begin_write(X, 1), write(0, 0));
+    assert_eq!(station.confirm(0), write(1, 1));
+    assert!(station.half_written(X));
+    assert_eq!(station.confirm(0), done(1, 2));
+    assert!(!station.half_written(X));
+    assert_eq!(station.begin_read(X), read(0));
+}
+
+#[test]
+fn a_new_opening_ends_what_was_in_hand() {
+    let description = description();
+    let mut station = Station::open(&description, &POWER_ON).expect("enough bytes");
+    assert_eq!(station.begin_write(LOW, 1), write(2, 0xA1));
+    assert_eq!(station.abandon(), Ok(()));
+    assert_eq!(station.begin_read(HIGH), read(2));
+    assert_eq!(station.open_again(&[1; 3]), Err(Refusal::ShortRecord));
+    let in_hand = Operation::Reading {
+        variable: HIGH,
+        step: 0,
+        gathered: 0,
+    };
+    assert_eq!(
+        (station.operation(), station.half_written(LOW)),
+        (in_hand, true)
+    );
+    assert_eq!(station.open_again(&[1; 9]), Ok(()));
+    assert_eq!(station.operation(), Operation::Idle);
+    assert_eq!(station.record(), [1; 5]);
+    assert_eq!(station.begin_read(LOW), read(2));
+}
+
+/// Storage at each offset, with one that does not answer.
+struct Storage {
+    bytes: [u8; 5],
+    dead: Option<u8>,
+}
+
+impl Ports for Storage {
+    type Failure = u8;
+
+    fn perform(&mut self, access: Access) -> Result<u8, u8> {
+        if self.dead == Some(access.offset) {
+            return Err(access.offset);
+        }
+        let cell = &mut self.bytes[usize::from(access.offset)];
+        if access.direction == Direction::Write {
+            *cell = access.byte;
+        }
+        Ok(*cell)
+    }
+}
+
+#[test]
+fn ports_that_fail_abandon_the_operation() {
+    let description = description();
+    let mut station = Station::open(&description, &POWER_ON).expect("enough bytes");
+    let mut ports = Storage {
+        bytes: POWER_ON,
+        dead: None,
+    };
+    let finished = |value, accesses| Ok(Done { value, accesses });
+    assert_eq!(station.write(X, -100, &mut ports), finished(-100, 2));
+    assert_eq!(station.read(X, &mut ports), finished(-100, 2));
+    ports.dead = Some(1);
+    assert_eq!(station.read(X, &mut ports), Err(Stopped::Failed(1)));
+    assert_eq!(station.write(X, 99, &mut ports), Err(Stopped::Failed(1)));
+    assert_eq!(station.operation(), Operation::Idle);
+    ports.dead = None;
+    let half = Err(Stopped::Refused(Refusal::HalfWritten));
+    assert_eq!(station.read(X, &mut ports), half);
+    assert_eq!(station.write(X, 99, &mut ports), finished(99, 2));
+    assert_eq!(station.read(X, &mut ports), finished(99, 2));
+}
