@@ -1,0 +1,137 @@
+/*
+ * A score in two registers of a scoring board: written, read back, abandoned midway, and written
+ * again. The board is a simulated one, four bytes of storage. rust/desfanuk/examples/score.rs is
+ * the same program in Rust.
+ *
+ *     cc -std=c99 -Iinclude include/score.c target/staticlib/libabi.a -o score
+ *     ./score boards/scoring.devil
+ */
+#include "desfanuk.h"
+
+#include <stdio.h>
+
+/* The description: its text, and the tables that loading fills. */
+static uint8_t text[DESFANUK_TEXT_BYTES + 1];
+static size_t text_len;
+static uint32_t parameters[DESFANUK_PARAMETERS_WORDS];
+static uint32_t registers[DESFANUK_REGISTERS_WORDS];
+static uint32_t variables[DESFANUK_VARIABLES_WORDS];
+
+/* The station's state between calls, and the answer of the last one. */
+static uint8_t held[DESFANUK_REGISTERS];
+static uint8_t marks[DESFANUK_VARIABLES];
+static uint64_t operation[DESFANUK_OPERATION_WORDS];
+static int64_t answer[DESFANUK_ANSWER_WORDS];
+
+/* The board: a byte for each offset, and how many accesses it still answers. */
+static uint8_t bytes[4];
+static int patience;
+
+#define COUNT(array) (sizeof(array) / sizeof(array)[0])
+#define LENT(array) array, COUNT(array)
+#define TABLES LENT(parameters), LENT(registers), LENT(variables)
+
+/* Loads the description in a file. Says so and gives 0 if that is not possible. */
+static int load(const char *path)
+{
+    uint64_t verdict[DESFANUK_VERDICT_WORDS];
+    FILE *file = fopen(path, "rb");
+    if (file == NULL) {
+        perror(path);
+        return 0;
+    }
+    text_len = fread(text, 1, sizeof text, file);
+    fclose(file);
+    desfanuk_load(text, text_len, LENT(parameters), LENT(registers), LENT(variables),
+                  LENT(verdict));
+    if (verdict[0] == DESFANUK_REFUSED) {
+        fprintf(stderr, "refused %d, at byte %d\n", (int)verdict[1], (int)verdict[2]);
+        return 0;
+    }
+    printf("The board has %d registers and %d variables.\n", (int)verdict[2], (int)verdict[3]);
+    return 1;
+}
+
+/* Opens the station over a board whose registers are all 0 at power-on. */
+static int open_station(void)
+{
+    static const uint8_t power[DESFANUK_REGISTERS];
+    desfanuk_open(TABLES, LENT(power), LENT(held), LENT(marks), LENT(operation), LENT(answer));
+    return answer[0] == DESFANUK_OPENED;
+}
+
+/* Performs the access on offer, and gives the byte that the board then holds there. */
+static uint8_t perform(void)
+{
+    int offset = (int)answer[3];
+    if (answer[1] == DESFANUK_READ) {
+        printf("  read at base + %d: 0x%02X\n", offset, (unsigned)bytes[offset]);
+    } else {
+        bytes[offset] = (uint8_t)answer[4];
+        printf("  write 0x%02X at base + %d\n", (unsigned)bytes[offset], offset);
+    }
+    return bytes[offset];
+}
+
+/* Carries out the operation that was begun, access by access, as far as the board answers. */
+static void carry_out(void)
+{
+    while (answer[0] == DESFANUK_OFFER) {
+        if (patience == 0) {
+            desfanuk_abandon(TABLES, LENT(held), LENT(marks), LENT(operation), LENT(answer));
+            printf("  the board does not answer: abandoned\n");
+            return;
+        }
+        patience -= 1;
+        desfanuk_confirm(TABLES, LENT(held), LENT(marks), LENT(operation), perform(), LENT(answer));
+    }
+    if (answer[0] == DESFANUK_DONE) {
+        printf("  done: %d, in %d accesses\n", (int)answer[1], (int)answer[2]);
+    } else if (answer[1] == DESFANUK_REFUSED_HALF_WRITTEN) {
+        printf("  refused (28): the variable is half-written\n");
+    } else {
+        printf("  refused (%d)\n", (int)answer[1]);
+    }
+}
+
+static void write_score(size_t score, const char *title, int64_t value, int accesses)
+{
+    printf("%s\n", title);
+    patience = accesses;
+    desfanuk_begin_write(TABLES, LENT(held), LENT(marks), LENT(operation), score, value,
+                         LENT(answer));
+    carry_out();
+}
+
+static void read_score(size_t score, const char *title)
+{
+    printf("%s\n", title);
+    patience = 2;
+    desfanuk_begin_read(TABLES, LENT(held), LENT(marks), LENT(operation), score, LENT(answer));
+    carry_out();
+}
+
+int main(int argc, char **argv)
+{
+    static const uint8_t name[] = {'s', 'c', 'o', 'r', 'e'};
+    int64_t found;
+    if (argc != 2) {
+        fprintf(stderr, "usage: score DESCRIPTION\n");
+        return 2;
+    }
+    if (!load(argv[1]) || !open_station()) {
+        return 1;
+    }
+    found = desfanuk_lookup(text, text_len, LENT(variables), LENT(name));
+    if (found < 0) {
+        fprintf(stderr, "it has no score\n");
+        return 1;
+    }
+    write_score((size_t)found, "Write the score 2741.", 2741, 2);
+    read_score((size_t)found, "Read it.");
+    write_score((size_t)found, "Write 3000, and let the board stop midway.", 3000, 1);
+    read_score((size_t)found, "Read the score: its registers hold 2997 now, which nobody gave.");
+    write_score((size_t)found, "Write 3000 again.", 3000, 2);
+    read_score((size_t)found, "Read it.");
+    return 0;
+}

@@ -1,0 +1,105 @@
+//! include/desfanuk.h and the example in C: both compile without a warning, the header's numbers
+//! are this crate's, and the example tells the same story as the one in Rust. A compiler is there,
+//! since Rust links by it.
+
+use std::fs;
+use std::path::{Path, PathBuf};
+use std::process::Command;
+
+use desfanuk::{raw, Refusal};
+
+#[allow(dead_code)]
+#[path = "../examples/score.rs"]
+mod score;
+
+const WARNINGS: [&str; 4] = ["-Wall", "-Wextra", "-Werror", "-pedantic"];
+
+fn of_repository(path: &str) -> PathBuf {
+    PathBuf::from(env!("CARGO_MANIFEST_DIR"))
+        .join("../..")
+        .join(path)
+}
+
+/// Where the build found the archive.
+fn archive() -> PathBuf {
+    Path::new(env!("DESFANUK_ARCHIVE")).to_path_buf()
+}
+
+fn compile(language: &[&str], rest: &[&Path]) {
+    let status = Command::new("cc")
+        .args(language)
+        .args(WARNINGS)
+        .arg("-I")
+        .arg(of_repository("include"))
+        .args(rest)
+        .status()
+        .expect("a C compiler");
+    assert!(status.success(), "{language:?} {rest:?}");
+}
+
+fn scratch(name: &str) -> PathBuf {
+    Path::new(env!("CARGO_TARGET_TMPDIR")).join(name)
+}
+
+/// The name of a refusal's macro.
+fn macro_of(refusal: Refusal) -> String {
+    let mut name = "DESFANUK_REFUSED".to_string();
+    for letter in format!("{refusal:?}").chars() {
+        if letter.is_uppercase() {
+            name.push('_');
+        }
+        name.push(letter.to_ascii_uppercase());
+    }
+    name
+}
+
+#[test]
+fn the_numbers_of_the_header_are_those_of_the_crate() {
+    let mut numbers = vec![
+        (
+            "DESFANUK_PARAMETERS_WORDS".to_string(),
+            raw::PARAMETERS_WORDS,
+        ),
+        ("DESFANUK_REGISTERS_WORDS".to_string(), raw::REGISTERS_WORDS),
+        ("DESFANUK_VARIABLES_WORDS".to_string(), raw::VARIABLES_WORDS),
+        ("DESFANUK_VERDICT_WORDS".to_string(), raw::VERDICT_WORDS),
+        ("DESFANUK_OPERATION_WORDS".to_string(), raw::OPERATION_WORDS),
+        ("DESFANUK_ANSWER_WORDS".to_string(), raw::ANSWER_WORDS),
+    ];
+    for &refusal in Refusal::ALL {
+        numbers.push((macro_of(refusal), usize::from(refusal.number())));
+    }
+    let mut program = "#include \"desfanuk.h\"\n".to_string();
+    for (name, number) in &numbers {
+        program += &format!("typedef char {name}_is[{name} == {number} ? 1 : -1];\n");
+    }
+    let path = scratch("numbers.c");
+    fs::write(&path, program).expect("written");
+    for language in [
+        ["-x", "c", "-std=c99", "-fsyntax-only"],
+        ["-x", "c++", "-std=c++98", "-fsyntax-only"],
+    ] {
+        compile(&language, &[&path]);
+    }
+}
+
+#[test]
+fn the_example_tells_the_same_story_in_c_and_in_rust() {
+    let want = include_str!("score.txt");
+    let board = of_repository("boards/scoring.devil");
+    let text = fs::read(&board).expect("the board");
+    assert_eq!(score::story(text).expect("a story"), want);
+
+    let program = scratch("score");
+    let source = of_repository("include/score.c");
+    compile(
+        &["-std=c99"],
+        &[&source, &archive(), Path::new("-o"), &program],
+    );
+    let told = Command::new(&program)
+        .arg(&board)
+        .output()
+        .expect("it runs");
+    assert!(told.status.success());
+    assert_eq!(String::from_utf8_lossy(&told.stdout), want);
+}
