@@ -1,6 +1,6 @@
 //! The proved calls as they are: numbers and slices alone. docs/ABI.md says how words stand for a
-//! verdict, an operation and an answer; what each call does is its contract in crates/abi. Nothing
-//! checks the declarations below against it, so they stand once, here, each with a safe wrapper.
+//! verdict, an operation and an answer; what each call does is its contract in crates/abi, whose
+//! declarations those below are held to by a test.
 
 /// Words of the table of parameters: the count, and 16 entries of 36.
 pub const PARAMETERS_WORDS: usize = 577;
