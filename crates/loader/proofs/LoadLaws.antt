@@ -21,11 +21,11 @@ use Rattle.tables.proofs.Growth.{before-none}
 use Rattle.tables.proofs.ScanLaws.{uncovered-says}
 use Rattle.tables.specs.View.{Tables}
 use Rattle.rules.specs.declared.fault.Fault.{Fault}
-use Rattle.rules.specs.Fault.{noFault, isFault}
+use Rattle.rules.specs.Fault.{isFault}
 use Rattle.rules.specs.State.{State, stateOf}
 use Rattle.loader.specs.declared.heading.Loading.{Loading}
 use Rattle.loader.specs.declared.whole.Verdict.{Verdict}
-use Rattle.loader.specs.Judge.{judge, progressOf}
+use Rattle.loader.specs.Judge.{judge, progressOf, atStart}
 use Rattle.loader.specs.Ready.{Ready}
 use Rattle.loader.specs.Load.{lentAs, tablesOf, Sized, beginning, judged, judgedAs, firstUncovered, onceRead, verdictOf, isAccepted, leftBy, isShort, isLong, loaded, laidOver, loadOf}
 use Rattle.loader.proofs.CountLaws.{None, none-parameters}
@@ -42,14 +42,11 @@ unfolding lentAs tablesOf beginning
 blank-is ps rs vs e =
     record { parameters = ap (λ (t : Tables). t .parameters) e; registers = ap (λ (t : Tables). t .registers) e; variables = ap (λ (t : Tables). t .variables) e }
 
-abbrev start : Loading
-start = record { parameters = 0; registers = 0; variables = 0; judging = record { place = 0; extent = 0; fault = record { number = 0; place = 0 } }; step = At 0 }
-
 abbrev first : Progress State
 first = record { parameters = 0; registers = 0; variables = 0; made = beginning; step = At 0 }
 
-starts : (ps rs vs : List ℕ) → Blank ps rs vs → progressOf start ps rs vs ≡ first
-unfolding progressOf stateOf beginning noFault
+starts : (ps rs vs : List ℕ) → Blank ps rs vs → progressOf atStart ps rs vs ≡ first
+unfolding progressOf stateOf beginning atStart
 starts ps rs vs b = rw (b .parameters, b .registers, b .variables)
 
 -- nothing is counted or marked yet
@@ -77,10 +74,12 @@ unfolding judged readingWith
 reading-is text = reading-folds (judge text) text beginning
 
 module _ (text : List ℕ) (ps rs vs : List ℕ) (blank : Blank ps rs vs) where
-  module _ (headed : Loading) (qs : List ℕ) (p : progressOf headed qs rs vs ≡ parametersWith (judge text) text (progressOf start ps rs vs)) where
+  module _ (headed : Loading) (qs : List ℕ) {start : Loading} (s : start ≡ atStart) (p : progressOf headed qs rs vs ≡ parametersWith (judge text) text (progressOf start ps rs vs)) where
+    from-start : progressOf headed qs rs vs ≡ parametersWith (judge text) text first
+    from-start = p ∙ ap (λ (l : Loading). parametersWith (judge text) text (progressOf l ps rs vs)) s ∙ ap (parametersWith (judge text) text) (starts ps rs vs blank)
+
     counted-none : None (progressOf headed qs rs vs)
-    unfolding progressOf
-    counted-none = subst None (sym p) (none-parameters text (progressOf start ps rs vs) (refl, refl))
+    counted-none = subst None (sym from-start) (none-parameters text first (refl, refl))
 
     pub ready-start : Ready (progressOf headed qs rs vs) (replicate 2048 0) (replicate 64 0) (replicate 64 0) (replicate 2048 0) (replicate 64 0) (replicate 64 0)
     unfolding progressOf stateOf
@@ -92,7 +91,7 @@ module _ (text : List ℕ) (ps rs vs : List ℕ) (blank : Blank ps rs vs) where
     unfolding judged progressOf
     text-judged all rs₂ vs₂ d e =
         ap (movedTo (progressOf all qs rs₂ vs₂)) e
-        ∙ ap (λ (q : Progress State). movedTo q (fixedAfter text 255 (q .step))) (d ∙ ap (declarationsWith (judge text) text) (p ∙ ap (parametersWith (judge text) text) (starts ps rs vs blank)))
+        ∙ ap (λ (q : Progress State). movedTo q (fixedAfter text 255 (q .step))) (d ∙ ap (declarationsWith (judge text) text) from-start)
         ∙ reading-is text
 
 -- rule 16 is asked for only where no rule is broken before

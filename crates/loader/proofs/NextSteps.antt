@@ -23,7 +23,7 @@ use Rattle.rules.specs.Parameter.{judgeParameter}
 use Rattle.rules.specs.Register.{judgeRegister}
 use Rattle.rules.specs.Variable.{readOf, judgeVariable, MappedUnless}
 use Rattle.loader.specs.declared.heading.Loading.{Loading}
-use Rattle.loader.specs.Judge.{judge, progressOf, movedBy}
+use Rattle.loader.specs.Judge.{judge, progressOf, movedBy, variableMore}
 use Rattle.loader.specs.Ready.{Ready}
 use Rattle.loader.proofs.LoadSteps.{moved-to}
 use Rattle.loader.proofs.PieceCounts.{WellRead, well-read}
@@ -105,17 +105,14 @@ module _ (text : List ℕ) (l : Loading) (ps rs vs : List ℕ) where
 
     module _ {a b : List ℕ} (qs : List ℕ) (j : Judging) {next : ℕ} (g : a ≡ variableAfter text (replicate 40 0) (replicate 40 0) (l .step) .first)
         (h : b ≡ variableAfter text (replicate 40 0) (replicate 40 0) (l .step) .second) (goes : end ≡ At next)
-        (s : stateOf j ps rs qs ≡ unlessStopped state (judgeVariable text state (readOf one a b))) where
-      abbrev after : Loading
-      after = record { parameters = l .parameters; registers = l .registers; variables = l .variables + 1; judging = j; step = end }
-
+        (s : stateOf j ps rs qs ≡ unlessStopped state (judgeVariable text state (readOf one a b))) {after : Loading} (m : after ≡ variableMore l j end) where
       pub variable-goes : progressOf after ps rs qs ≡ variableWith (judge text) text here
-      unfolding variableWith taken counted judge progressOf readOf
-      variable-goes = rw (room, variable-read e g h, ← f, goes, s)
+      unfolding variableWith taken counted judge progressOf readOf variableMore
+      variable-goes = rw (m, room, variable-read e g h, ← f, goes, s)
 
       counted-is : progressOf after ps rs qs ≡ counted (judge text) here (aVariable (readOf one a b)) next
-      unfolding counted judge progressOf
-      counted-is = rw (goes, s)
+      unfolding counted judge progressOf variableMore
+      counted-is = rw (m, goes, s)
 
       pub variable-ready : {bits held pulled bits1 held1 pulled1 bits′ held′ pulled′ bits1′ held1′ pulled1′ : List ℕ} → Ready here bits held pulled bits1 held1 pulled1 → MappedUnless (j .fault .number) qs (countOf vs + 1) bits′ held′ pulled′ bits1′ held1′ pulled1′
           → Ready (progressOf after ps rs qs) bits′ held′ pulled′ bits1′ held1′ pulled1′

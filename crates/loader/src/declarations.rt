@@ -17,7 +17,7 @@ ghost use Rattle.tables.specs.Tables.{countOf};
 ghost use Rattle.tables.specs.Rules.{variableShape};
 ghost use Rattle.rules.specs.State.{stateOf, unlessStopped};
 ghost use Rattle.rules.specs.Variable.{readOf, judgeVariable, MappedUnless};
-ghost use Rattle.loader.specs.Judge.{judge, progressOf};
+ghost use Rattle.loader.specs.Judge.{judge, progressOf, variableMore};
 ghost use Rattle.loader.specs.Ready.{Ready};
 
 const REGISTER: u16 = 529;
@@ -109,6 +109,20 @@ fn variable_judged(
     )
 }
 
+// One variable more, which ends at a step.
+fn with_variable(loading: Loading, judging: Judging, step: Step) -> Loading
+    requires { ⌜ loading .variables < 2 ^ 32 ⌝ }
+    ensures { λ r. ⌜ r ≡ variableMore loading judging step ⌝ }
+{
+    Loading {
+        parameters: loading.parameters,
+        registers: loading.registers,
+        variables: loading.variables + 1,
+        judging,
+        step,
+    }
+}
+
 fn variable_next(
     text: &[u8],
     loading: Loading,
@@ -156,13 +170,7 @@ fn variable_next(
         held1,
         pulled1,
     );
-    Loading {
-        parameters: loading.parameters,
-        registers: loading.registers,
-        variables: loading.variables + 1,
-        judging,
-        step: end,
-    }
+    with_variable(loading, judging, end)
 }
 
 // A register or a variable, by its first word.

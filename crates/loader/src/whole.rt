@@ -10,6 +10,7 @@ use syntax::Step;
 use tables::scan::uncovered;
 use tables::words::word;
 ghost use mathlib.Core.Path.{_≡_};
+ghost use Rattle.loader.specs.Judge.{atStart};
 ghost use Rattle.loader.specs.Load.{lentAs, tablesOf, beginning, Sized, judgedAs, onceRead, verdictOf, isAccepted, judged, leftBy, loaded, loadOf};
 
 const END: u16 = 255;
@@ -63,6 +64,26 @@ fn once_read(step: Step, verdict: Verdict) -> Verdict
     }
 }
 
+// Nothing is read yet, and no rule is broken.
+fn at_start() -> Loading
+    ensures { λ r. ⌜ r ≡ atStart ⌝ }
+{
+    Loading {
+        parameters: 0,
+        registers: 0,
+        variables: 0,
+        judging: Judging {
+            place: 0,
+            extent: 0,
+            fault: Fault {
+                number: 0,
+                place: 0,
+            },
+        },
+        step: Step::At(0),
+    }
+}
+
 // Reads and judges a text, into tables of their stated sizes that are all zero.
 fn judge_text(
     text: &[u8],
@@ -80,20 +101,7 @@ fn judge_text(
     let mut bits1 = [0u8; 2048];
     let mut held1 = [0u8; 64];
     let mut pulled1 = [0u8; 64];
-    let start = Loading {
-        parameters: 0,
-        registers: 0,
-        variables: 0,
-        judging: Judging {
-            place: 0,
-            extent: 0,
-            fault: Fault {
-                number: 0,
-                place: 0,
-            },
-        },
-        step: Step::At(0),
-    };
+    let start = at_start();
     let headed = parameters_of(text, start, parameters, registers, variables);
     let all = declarations_of(
         text,

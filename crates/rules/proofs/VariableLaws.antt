@@ -20,9 +20,10 @@ use Rattle.token.specs.Kind.{pick}
 use Rattle.syntax.specs.Variable.{VariableRead}
 use Rattle.rules.specs.declared.fault.Fault.{Fault}
 use Rattle.rules.specs.declared.declared.Judging.{Judging}
+use Rattle.rules.specs.declared.variable.Early.{Early}
 use Rattle.rules.specs.Fault.{noFault, faultIf, orElse}
-use Rattle.rules.specs.State.{State, stateOf}
-use Rattle.rules.specs.Variable.{triggers, headWords, withVariable, badBehaviours, lowest, readOf, nameFault, firstPieces, secondPieces, earlyFault, lateNumber, judgeVariable, Mapped}
+use Rattle.rules.specs.State.{State, stateOf, faulted}
+use Rattle.rules.specs.Variable.{triggers, headWords, withVariable, badBehaviours, lowest, readOf, nameFault, firstPieces, secondPieces, listOf, earlyFault, earlyOf, lateNumber, judgeVariable, Mapped}
 use Rattle.rules.proofs.FrameLaws.{written-below, before-same}
 use Rattle.tables.proofs.SameLaws.{Alike}
 use Rattle.tables.proofs.Growth.{before-more}
@@ -94,6 +95,10 @@ late-none place {number} {late} h z = go (eqb number 0) refl
     go true e = eqb-true number 0 e
     go false e = sym (ap (λ (f : Fault). f .number) (h ∙ ap (λ (b : Bool). pick (not b) (record { number = number; place = place }) noFault) e)) ∙ z
 
+pub faulted-number : (j : Judging) (f : Fault) {r : Judging} → r ≡ faulted j f → r .fault .number ≡ f .number
+unfolding faulted
+faulted-number j f e = ap (λ (r : Judging). r .fault .number) e
+
 module _ (text : List ℕ) (j : Judging) (ps rs vs : List ℕ) (d : Variable) (first second : List ℕ) where
   abbrev before : State
   before = stateOf j ps rs vs
@@ -101,22 +106,33 @@ module _ (text : List ℕ) (j : Judging) (ps rs vs : List ℕ) (d : Variable) (f
   abbrev it : VariableRead
   it = readOf d first second
 
-  module _ {names unpaired early : Fault} {firsts : List ℕ} {read write : ℕ} (n : names ≡ nameFault text before it) (f : firsts ≡ firstPieces text before it)
-      (r : read ≡ listFor rs d firsts 0) (w : write ≡ listFor rs d firsts 1) (u : unpaired ≡ faultIf (eqb read 0 && eqb write 0) 11 (d .place))
-      (e : early ≡ orElse names unpaired) where
-    early-is : early ≡ earlyFault text before it
-    unfolding earlyFault stateOf readOf
-    early-is = rw (e, u, r, w, f, n)
+  -- what breaks before there is an entry
+  pub early-is : {names unpaired fault : Fault} {firsts : List ℕ} {read write : ℕ} → names ≡ nameFault text before it → firsts ≡ firstPieces text before it
+      → read ≡ listFor rs d firsts 0 → write ≡ listFor rs d firsts 1 → unpaired ≡ faultIf (eqb read 0 && eqb write 0) 11 (d .place)
+      → fault ≡ orElse names unpaired → record { fault = fault; read = read; write = write } ≡ earlyOf text before it
+  unfolding earlyOf earlyFault stateOf readOf
+  early-is n f r w u e = rw (e, u, r, w, f, n)
 
-    pub judged-early : (early .number ≡ 0 → ⊥)
-        → stateOf (record { place = j .place; extent = j .extent; fault = early }) ps rs vs ≡ judgeVariable text before it
-    unfolding judgeVariable stateOf
-    judged-early z = rw (← early-is, ne-eqb (early .number) 0 z)
+  module _ {early : Early} (e : early ≡ earlyOf text before it) where
+    fault-is : early .fault ≡ earlyFault text before it
+    unfolding earlyOf
+    fault-is = ap (λ (x : Early). x .fault) e
 
-    pub judged-late : {seconds t : List ℕ} {number : ℕ} {late : Fault} → (early .number ≡ 0) → seconds ≡ secondPieces text before it
-        → t ≡ withVariable vs d firsts seconds read write
-        → number ≡ lowest (variableFault rs t (countOf vs)) (cond (badBehaviours (d .rest .behaviours) read write) 13 0)
-        → late ≡ faultIf (not (eqb number 0)) number (d .place)
-        → stateOf (record { place = j .place; extent = j .extent; fault = late }) ps rs t ≡ judgeVariable text before it
-    unfolding judgeVariable stateOf readOf lateNumber
-    judged-late z s t m l = rw (← early-is, eq-eqb (early .number) 0 z, l, m, t, r, w, f, s)
+    read-is : early .read ≡ listOf text before it 0
+    unfolding earlyOf
+    read-is = ap (λ (x : Early). x .read) e
+
+    write-is : early .write ≡ listOf text before it 1
+    unfolding earlyOf
+    write-is = ap (λ (x : Early). x .write) e
+
+    pub judged-early : {r : Judging} → (early .fault .number ≡ 0 → ⊥) → r ≡ faulted j (early .fault) → stateOf r ps rs vs ≡ judgeVariable text before it
+    unfolding judgeVariable stateOf faulted
+    judged-early z h = rw (h, ← fault-is, ne-eqb (early .fault .number) 0 z)
+
+    pub judged-late : {firsts seconds t : List ℕ} {number : ℕ} {late : Fault} {r : Judging} → (early .fault .number ≡ 0) → firsts ≡ firstPieces text before it
+        → seconds ≡ secondPieces text before it → t ≡ withVariable vs d firsts seconds (early .read) (early .write)
+        → number ≡ lowest (variableFault rs t (countOf vs)) (cond (badBehaviours (d .rest .behaviours) (early .read) (early .write)) 13 0)
+        → late ≡ faultIf (not (eqb number 0)) number (d .place) → r ≡ faulted j late → stateOf r ps rs t ≡ judgeVariable text before it
+    unfolding judgeVariable stateOf readOf lateNumber faulted
+    judged-late z f s t m l h = rw (h, ← fault-is, eq-eqb (early .fault .number) 0 z, l, m, t, read-is, write-is, f, s)

@@ -20,6 +20,10 @@ unfoldable pub stateOf : Judging → List ℕ → List ℕ → List ℕ → Stat
 stateOf j parameters registers variables =
     record { place = j .place; extent = j .extent; parameters = parameters; registers = registers; variables = variables; fault = j .fault }
 
+-- the same device, with another fault
+unfoldable pub faulted : Judging → Fault → Judging
+faulted j fault = record { place = j .place; extent = j .extent; fault = fault }
+
 -- a state with a fault stays as it is
 unfoldable pub unlessStopped : State → State → State
 unlessStopped s next = pick (isFault (s .fault)) s next

@@ -13,6 +13,7 @@ use Rattle.tables.specs.Tables.{countOf, variableAt, variablePart}
 use Rattle.tables.specs.Scan.{Before}
 use Rattle.tables.specs.Rules.{variableFault}
 use Rattle.rules.specs.declared.fault.Fault.{Fault}
+use Rattle.rules.specs.declared.variable.Early.{Early}
 use Rattle.rules.specs.Fault.{faultIf, orElse}
 use Rattle.rules.specs.Words.{wordOf, written}
 use Rattle.rules.specs.State.{State}
@@ -83,6 +84,10 @@ module _ (text : List ℕ) (s : State) (it : VariableRead) where
   -- what breaks before there is an entry: 6, 7, then 11 by a bad pairing or by a bare list that gives neither part
   unfoldable pub earlyFault : Fault
   earlyFault = orElse nameFault (faultIf (eqb (listOf 0) 0 && eqb (listOf 1) 0) 11 (it .variable .place))
+
+  -- the same, with the lists that give the parts, as the code holds them
+  unfoldable pub earlyOf : Early
+  earlyOf = record { fault = earlyFault; read = listOf 0; write = listOf 1 }
 
   abbrev pub variablesWith : List ℕ
   variablesWith = withVariable (s .variables) (it .variable) firstPieces secondPieces (listOf 0) (listOf 1)

@@ -7,8 +7,8 @@ ghost use Rattle.tables.specs.Every.{every};
 ghost use Rattle.tables.specs.Tables.{countOf};
 ghost use Rattle.tables.specs.Rules.{variableFault, variableShape};
 ghost use Rattle.rules.specs.Words.{written};
-ghost use Rattle.rules.specs.State.{stateOf};
-ghost use Rattle.rules.specs.Variable.{triggers, headWords, withVariable, badTrigger, badBehaviours, lowest, nameFault, firstPieces, secondPieces, readOf, judgeVariable, Mapped, MappedUnless};
+ghost use Rattle.rules.specs.State.{stateOf, faulted};
+ghost use Rattle.rules.specs.Variable.{triggers, headWords, withVariable, badTrigger, badBehaviours, lowest, nameFault, firstPieces, secondPieces, earlyOf, readOf, judgeVariable, Mapped, MappedUnless};
 use crate::declared::Judging;
 use crate::declared::declared_before;
 use crate::fault::Fault;
@@ -230,6 +230,64 @@ pub fn name_fault(
     or_else(declared, or_else(unknown, later))
 }
 
+// What breaks before there is an entry, and the list that gives each part.
+pub struct Early {
+    pub fault: Fault,
+    pub read: usize,
+    pub write: usize,
+}
+
+// Rules 6 and 7, then 11 by the pairing. The pieces of both lists are stored as the tables hold them.
+pub fn early_of(
+    text: &[u8],
+    judging: Judging,
+    parameters: &[u32],
+    registers: &[u32],
+    variables: &[u32],
+    variable: Variable,
+    first: &[usize],
+    second: &[usize],
+    firsts: &mut [u32],
+    seconds: &mut [u32],
+) -> Early
+    requires { ⌜ variable .count ≤ 8 ⌝ }
+    requires { ⌜ variable .rest .count ≤ 8 ⌝ }
+    requires { ⌜ now firsts ≡ replicate 24 0 ⌝ }
+    requires { ⌜ now seconds ≡ replicate 24 0 ⌝ }
+    ensures early { λ r. ⌜ r ≡ earlyOf (now (text .entry)) (stateOf judging (now (parameters .entry)) (now (registers .entry)) (now (variables .entry))) (readOf variable (now (first .entry)) (now (second .entry))) ⌝ }
+    ensures first { λ _. ⌜ now (firsts .exit) ≡ firstPieces (now (text .entry)) (stateOf judging (now (parameters .entry)) (now (registers .entry)) (now (variables .entry))) (readOf variable (now (first .entry)) (now (second .entry))) ⌝ }
+    ensures second { λ _. ⌜ now (seconds .exit) ≡ secondPieces (now (text .entry)) (stateOf judging (now (parameters .entry)) (now (registers .entry)) (now (variables .entry))) (readOf variable (now (first .entry)) (now (second .entry))) ⌝ }
+{
+    let names = name_fault(
+        text,
+        judging,
+        parameters,
+        registers,
+        variables,
+        variable,
+        first,
+        second,
+        firsts,
+        seconds,
+    );
+    let read = list_for(registers, variable, firsts, 0);
+    let write = list_for(registers, variable, firsts, 1);
+    let unpaired = fault_if((read == 0) & (write == 0), 11, variable.place);
+    let fault = or_else(names, unpaired);
+    Early { fault, read, write }
+}
+
+// The same device, with what the rules say now.
+pub fn with_fault(judging: Judging, fault: Fault) -> Judging
+    ensures { λ r. ⌜ r ≡ faulted judging fault ⌝ }
+{
+    Judging {
+        place: judging.place,
+        extent: judging.extent,
+        fault,
+    }
+}
+
 // Judges a variable against the tables so far. Its fault is named where a rule is broken; else the tables and the maps have it.
 pub fn judge_variable(
     text: &[u8],
@@ -258,7 +316,7 @@ pub fn judge_variable(
 {
     let mut firsts = [0u32; 24];
     let mut seconds = [0u32; 24];
-    let names = name_fault(
+    let early = early_of(
         text,
         judging,
         parameters,
@@ -270,16 +328,9 @@ pub fn judge_variable(
         &mut firsts,
         &mut seconds,
     );
-    let read = list_for(registers, variable, &firsts, 0);
-    let write = list_for(registers, variable, &firsts, 1);
-    let unpaired = fault_if((read == 0) & (write == 0), 11, variable.place);
-    let early = or_else(names, unpaired);
-    if early.number != 0 {
-        return Judging {
-            place: judging.place,
-            extent: judging.extent,
-            fault: early,
-        };
+    let broken = early.fault;
+    if broken.number != 0 {
+        return with_fault(judging, broken);
     }
     let number = enter(
         variables,
@@ -287,8 +338,8 @@ pub fn judge_variable(
         variable,
         &firsts,
         &seconds,
-        read,
-        write,
+        early.read,
+        early.write,
         bits,
         held,
         pulled,
@@ -297,9 +348,5 @@ pub fn judge_variable(
         pulled1,
     );
     let late = fault_if(!(number == 0), number, variable.place);
-    Judging {
-        place: judging.place,
-        extent: judging.extent,
-        fault: late,
-    }
+    with_fault(judging, late)
 }

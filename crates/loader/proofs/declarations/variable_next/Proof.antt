@@ -1,14 +1,13 @@
 -- `loader::declarations::variable_next` meets its contract.
 use mathlib.Core.List.{[]}
 use native.Mathlib.Omega.{arith}
-use Rattle.loader.proofs.NextSteps.{variable-extra, variable-stops, variable-goes, variable-ready, ready-still}
 use mathlib.Core.Path.{sym, subst}
 use borrow.Author.Tests.{le-leb, lt-leb}
-use Rattle.syntax.specs.Text.{taken}
 use Rattle.rules.specs.State.{stateOf}
 use Rattle.loader.specs.Judge.{progressOf}
 use Rattle.loader.proofs.PieceCounts.{WellRead, well-read}
 use Rattle.loader.proofs.VariableReady.{judged-asks}
+use Rattle.loader.proofs.NextSteps.{variable-extra, variable-stops, variable-goes, variable-ready, ready-still}
 use borrow.Author.Needs.{needs}
 use Rattle.loader.proofs.declarations.variable_next.Statement.{statement}
 use Rattle.loader.proofs.declarations.variable_next.Tie as tie
@@ -56,8 +55,8 @@ variable-judged-requires : tie.Need-variable-judged-requires
 unfolding progressOf stateOf
 variable-judged-requires c κs = judged-asks _ (c .before .before .before .before .before .before .before .before .before .before .before .before .before .before .before .before .before .before .before .before .before .before .before .before .before .before .before .before .before .before .pre) _ (lt-leb _ _ (c .before .before .before .before .before .before .before .before .before .before .before .before .before .before .before .before .before .before .if1 .left)) (subst WellRead (sym (c .before .before .before .before .before .before .before .before .before .before .before .before .before .before .before .variable-after .ensures .0)) (well-read _ _ _ _))
 
-add-t44 : tie.Need-add-t44
-add-t44 c = omega (arith, c .before .before .before .before .before .before .before .before .before .before .before .before .before .before .before .before .before .before .before .before .before .before .before .before .before .before .before .before .before .before .before .before .before .before .if1 .left)
+with-variable-requires : tie.Need-with-variable-requires
+with-variable-requires c κs = omega (arith, c .before .before .before .before .before .before .before .before .before .before .before .before .before .before .before .before .before .before .before .before .before .before .before .before .before .before .before .before .before .before .before .before .before .if1 .left)
 
 same-length : tie.Need-same-length
 same-length c = search needs
@@ -82,9 +81,13 @@ same-length-7 c = search needs
 
 returns-3 : tie.Need-returns-3
 returns-3 c =
-    let e = c .before .before .before .before .before .before .before .before .before .before .before .before .before .before .before .before .before .before .before .before .before .before .before .before .before .before .before .before .before .before .before .variable-after .ensures in (
-      variable-goes _ _ _ _ _ (lt-leb _ _ (c .before .before .before .before .before .before .before .before .before .before .before .before .before .before .before .before .before .before .before .before .before .before .before .before .before .before .before .before .before .before .before .before .before .before .if1 .left)) (e .0) (c .before .before .before .before .before .before .before .before .before .before .before .before .before .before .before .before .before .before .before .before .before .before .before .before .before .before .before .before .fixed-after .ensures) _ _ (e .1 .0) (e .1 .1) (c .before .before .before .before .before .before .before .before .before .before .before .before .before .before .before .before .before .before .before .before .before .before .before .before .before .before .enum-told .given .1) (c .before .before .before .before .before .before .before .before .before .before .before .before .before .before .before .variable-judged .ensures .0),
-      variable-ready _ _ _ _ _ (lt-leb _ _ (c .before .before .before .before .before .before .before .before .before .before .before .before .before .before .before .before .before .before .before .before .before .before .before .before .before .before .before .before .before .before .before .before .before .before .if1 .left)) (e .0) (c .before .before .before .before .before .before .before .before .before .before .before .before .before .before .before .before .before .before .before .before .before .before .before .before .before .before .before .before .fixed-after .ensures) _ _ (e .1 .0) (e .1 .1) (c .before .before .before .before .before .before .before .before .before .before .before .before .before .before .before .before .before .before .before .before .before .before .before .before .before .before .enum-told .given .1) (c .before .before .before .before .before .before .before .before .before .before .before .before .before .before .before .variable-judged .ensures .0) (c .before .before .before .before .before .before .before .before .before .before .before .before .before .before .before .before .before .before .before .before .before .before .before .before .before .before .before .before .before .before .before .before .before .before .before .before .before .before .before .before .before .before .before .before .before .before .pre) (c .before .before .before .before .before .before .before .before .before .before .before .before .before .before .before .variable-judged .ensures .1),
+    let e = c .before .before .before .before .before .before .before .before .before .before .before .before .before .before .before .before .before .before .before .before .before .before .before .before .before .before .before .before .before .before .before .variable-after .ensures in
+    let l = lt-leb _ _ (c .before .before .before .before .before .before .before .before .before .before .before .before .before .before .before .before .before .before .before .before .before .before .before .before .before .before .before .before .before .before .before .before .before .before .if1 .left) in
+    let f = c .before .before .before .before .before .before .before .before .before .before .before .before .before .before .before .before .before .before .before .before .before .before .before .before .before .before .before .before .fixed-after .ensures in
+    let g = c .before .before .before .before .before .before .before .before .before .before .before .before .before .before .before .before .before .before .before .before .before .before .before .before .before .before .enum-told .given .1 in
+    let j = c .before .before .before .before .before .before .before .before .before .before .before .before .before .before .before .variable-judged .ensures in (
+      variable-goes _ _ _ _ _ l (e .0) f _ _ (e .1 .0) (e .1 .1) g (j .0) (c .with-variable .ensures),
+      variable-ready _ _ _ _ _ l (e .0) f _ _ (e .1 .0) (e .1 .1) g (j .0) (c .with-variable .ensures) (c .before .before .before .before .before .before .before .before .before .before .before .before .before .before .before .before .before .before .before .before .before .before .before .before .before .before .before .before .before .before .before .before .before .before .before .before .before .before .before .before .before .before .before .before .before .before .pre) (j .1),
     )
 
 pub variable-next-spec : {M : Type 1} → statement M
@@ -105,7 +108,7 @@ variable-next-spec =
     slice-aggregate-variable-judged
     slice-aggregate-variable-judged-2
     variable-judged-requires
-    add-t44
+    with-variable-requires
     same-length
     same-length-2
     same-length-3
