@@ -12,7 +12,7 @@ use Rattle.syntax.specs.declared.register.Masks.{Masks}
 use Rattle.syntax.specs.declared.register.Masked.{Masked}
 use Rattle.syntax.specs.Reader.{seenAt, fixedAfter}
 use Rattle.syntax.specs.Register.{markAfter, offsetAfter, portAfter, maskAfter, attributeAfter, maskTurn, moreMasks, secondMarked, restAfter, registerAfter}
-use Rattle.syntax.specs.Sizes.{body, register, operand, asksOperand, onward, passesAt, Tally, tallied, tooMuch}
+use Rattle.syntax.specs.Sizes.{body, register, asksOperand, onward, passesAt, Tally, tallied, tooMuch}
 use Rattle.syntax.proofs.LoopSteps.{loop-keeps}
 use Rattle.syntax.proofs.RegisterFollows.{bits-is, value-is}
 use Rattle.syntax.proofs.Tally.{Agrees, Quiet, agrees-tok, agrees-past, agrees-name, or-false}
@@ -35,12 +35,9 @@ module _ (text : List ℕ) (w : Option ℕ) where
       by false i false j = rw (i, j) a
 
   module _ (registers variables : ℕ) where
-    -- the count in a register, outside of offsets; and where an offset begins
+    -- the count in a register, outside of offsets
     abbrev inRegister : Tally
     inRegister = record { registers = registers; variables = variables; spot = register [] }
-
-    abbrev inOffset : Tally
-    inOffset = record { registers = registers; variables = variables; spot = operand [] }
 
     -- (@ expression)?
     agrees-offset : (s : Step) → Agrees text w inRegister s → Agrees text w inRegister (offsetAfter text s .step)

@@ -19,7 +19,7 @@ use Rattle.syntax.specs.Heading.{headAfter}
 use Rattle.syntax.specs.Parameter.{extraName}
 use Rattle.syntax.specs.Register.{registerAfter}
 use Rattle.syntax.specs.Variable.{VariableRead}
-use Rattle.syntax.specs.Text.{Declaration, aDevice, aParameter, aRegister, aVariable, Progress, begins, extraWord, movedTo, counted, taken, headWith, parameterWith, moreParameters, registerWith, variableWith, declarationWith, moreDeclarations, parametersWith, declarationsWith, readingWith, listed, reading}
+use Rattle.syntax.specs.Text.{Declaration, aDevice, aParameter, aRegister, aVariable, Progress, begins, extraWord, movedTo, counted, taken, headWith, parameterWith, moreParameters, registerWith, variableWith, declarationWith, moreDeclarations, parametersWith, declarationsWith, readingWith}
 use Rattle.syntax.specs.Sizes.{Spot, front, parameter, body, register, piece, onward, passesAt, asksOperand, Tally, nothingYet, tallied, tooMuch, passedIn, passedAt, Kept}
 use Rattle.syntax.proofs.LoopSteps.{loop-keeps}
 use Rattle.syntax.proofs.Tally.{Agrees, refused-agrees, agrees-tok, agrees-past, agrees-name, agrees-extra, agrees-extra-name, agrees-end}
@@ -163,7 +163,3 @@ sizes-kept judge text x =
     agrees-end text (passedAt text) (tally judge text (passedAt text) _ _ body) refl _
     (body-agrees judge text (passedAt text) (parametersWith judge text (record { parameters = 0; registers = 0; variables = 0; made = x; step = At 0 }))
     (heading-agrees judge text (passedAt text) (record { parameters = 0; registers = 0; variables = 0; made = x; step = At 0 }) refl (from-start text)))
-
-pub reading-kept : (text : List ℕ) → Kept (passedAt text) (reading text .step)
-unfolding reading
-reading-kept text = sizes-kept listed text []
