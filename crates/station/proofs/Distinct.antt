@@ -16,12 +16,16 @@ use Rattle.wiring.specs.Order as O
 use Rattle.station.specs.Variable.{partOf}
 use Rattle.station.specs.Calls.{stepsOf}
 use Rattle.station.proofs.Cases.{getD-among}
-use Rattle.station.proofs.Registers.{Once, mentions-once}
+use Rattle.station.specs.Steps.{Once, EachOnce}
+use Rattle.station.proofs.Registers.{mentions-once, mentioned, weight-in}
 use Rattle.station.proofs.Wired.{count-is}
 
-pub registers-once : (t : Tables) (part : Part) (v : ℕ) → Once (registersOf t part v)
+registers-once : (t : Tables) (part : Part) (v : ℕ) → Once (registersOf t part v)
 unfolding registersOf
 registers-once t part v = mentions-once (bitsOf t part v)
+
+pub each-once : (t : Tables) (part : Part) (v : ℕ) → EachOnce t part v
+each-once t part v = record { once = registers-once t part v; every = mentioned t part v; only = weight-in t part v }
 
 -- two of a list without repeats, at different steps, are different
 pub once-apart : (l : List ℕ) (i k : ℕ) → Once l → i < k → k < length l → getD l k 0 ≡ getD l i 0 → ⊥

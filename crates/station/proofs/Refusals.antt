@@ -2,7 +2,7 @@
 -- Assumes nothing.
 use Prim.Native.Nat.{ℕ, suc}
 use mathlib.Core.Path.{_≡_, _∙_, refl, sym, ap, subst}
-use mathlib.Core.Bool.{Bool, true, false, cond}
+use mathlib.Core.Bool.{Bool, true, false, true≢false, cond}
 use mathlib.Core.List.{List, [], _∷_}
 use mathlib.Core.Option.{Option, none, some}
 use lib.IntN.{ℤ}
@@ -11,8 +11,8 @@ use Rattle.tables.specs.View.{Tables}
 use Rattle.station.specs.declared.Operation.{Operation}
 use Rattle.station.specs.declared.Answer.the-variants.{Abandoned as Ended}
 use Rattle.station.specs.declared.Outcome as Code
-use Rattle.station.specs.Calls.{Idle, Reading, Writing, State, Outcome, Test, refused, unless, checked, readTests, writeTests, openingTests, confirmed, abandoned, readOn, writeOn, isLast, gather, registerTaken, keeping, writeAccess, opening, beginRead, beginWrite, confirm, abandon}
-use Rattle.station.specs.Answers.{refusalOf, valuesOf, lowestOf, endTests, Refuses}
+use Rattle.station.specs.Calls.{Idle, Reading, Writing, State, Outcome, Test, refused, unless, checked, readTests, writeTests, openingTests, endTests, isInHand, isAllowed, confirmed, abandoned, readOn, writeOn, isLast, gather, registerTaken, keeping, writeAccess, opening, beginRead, beginWrite, confirm, abandon}
+use Rattle.station.specs.Answers.{refusalOf, lowestOf, CanGive, Refuses}
 use Rattle.station.specs.Promise.{Meets}
 
 -- ── an outcome behind tests ──
@@ -57,7 +57,17 @@ refuses tests s o passes =
 
 -- ── the calls ──
 
+idle-allows : (t : Tables) (op : Operation) → isInHand op ≡ false → isAllowed t op ≡ true
+unfolding isAllowed
+idle-allows t Idle e = refl
+idle-allows t (Reading v n g) e = absurd (true≢false e)
+idle-allows t (Writing v n x) e = absurd (true≢false e)
+
 module _ (sound : Tables → Bool) (t : Tables) where
+  pub can-give : (s : State) → CanGive sound t s
+  can-give s =
+      record { an-opening = λ power. refl; a-read = λ v. refl; a-write = λ v z. refl; an-end = refl; idle-allowed = idle-allows t (s .operation) }
+
   pub opening-refuses : (power : List ℕ) (s : State) → Refuses (openingTests sound t power s) s (opening sound t power s)
   opening-refuses power s = refuses (openingTests sound t power s) s _ refl
 
@@ -113,17 +123,13 @@ module _ (sound : Tables → Bool) (t : Tables) where
 
 pub promised-number : {tests : List Test} {s : State} {o : Outcome} {kept marks : List ℕ} {given : Code.Outcome} → Refuses tests s o → Meets o kept marks given
     → refusalOf (given .answer) ≡ lowestOf tests
-promised-number r m = ap refusalOf (m .answer-is) ∙ r .number
+promised-number r m = m .number-is ∙ r .number
 
 pub promised-leaves : {tests : List Test} {s : State} {o : Outcome} {kept marks : List ℕ} {given : Code.Outcome} → Refuses tests s o → Meets o kept marks given
     → (n : ℕ) → refusalOf (given .answer) ≡ some n → (kept ≡ s .kept) × (marks ≡ s .marks) × (given .operation ≡ s .operation)
 promised-leaves r m n e =
-    let same = r .leaves n (sym (ap refusalOf (m .answer-is)) ∙ e) in (
+    let same = r .leaves n (sym (m .number-is) ∙ e) in (
       m .kept-is ∙ ap (λ (s : State). s .kept) same,
       m .marks-is ∙ ap (λ (s : State). s .marks) same,
       m .operation-is ∙ ap (λ (s : State). s .operation) same,
     )
-
--- and else gives the values that the specification's answer gives
-pub promised-values : {o : Outcome} {kept marks : List ℕ} {given : Code.Outcome} → Meets o kept marks given → valuesOf (given .answer) ≡ valuesOf (o .answer)
-promised-values m = ap valuesOf (m .answer-is)

@@ -24,13 +24,13 @@ use Rattle.station.specs.declared.Operation.{Operation}
 use Rattle.station.specs.declared.Answer.{Answer}
 use Rattle.station.specs.Calls.{Reading, Writing, Offered, Done, State, Outcome, keptOf, settingsBit, settingsByte, otherBit, writtenByte, gather, registerTaken, stepsOf, accessAt, readAccess, writeAccess, unless, isLong, isAllowed, isGathered, isLast, readOn, writeOn, keeping, checked, readTests, writeTests, beginRead, beginWrite, confirmed}
 use Rattle.station.specs.Answers.{refusalOf}
-use Rattle.station.specs.Steps.{readPlan, writePlan, broughtFor, valueRead, answersOf, offersThenDone, GoesByPlan}
+use Rattle.station.specs.Steps.{Once, readPlan, writePlan, broughtFor, valueRead, answersOf, offersThenDone, GoesByPlan}
 use Rattle.bits.proofs.BitLaws.{bits-equal, bit-number, number-lt}
 use Rattle.bits.proofs.ValueLaws.{encode-lt, decode-encode}
 use Rattle.station.proofs.Cases.{either, and-true, not-false-is, among-take, getD-among}
 use Rattle.station.proofs.ByteLaws.{gather-here, gather-there}
-use Rattle.station.proofs.Registers.{Once, mentioned, some-step}
-use Rattle.station.proofs.Distinct.{registers-once, once-apart, at-most-8}
+use Rattle.station.proofs.Registers.{mentioned, some-step}
+use Rattle.station.proofs.Distinct.{each-once, once-apart, at-most-8}
 use Rattle.station.proofs.Underway.{is-underway, allow-reading, allow-writing, gathered-none, gathered-more, gather-lt}
 use Rattle.station.proofs.Refusals.{unless-cases}
 
@@ -101,7 +101,7 @@ module _ (t : Tables) (ok : sound t ≡ true) where
       (passes k m (Writing v n x) (confirmed t s (Writing v n x) byte) hk hm (allow-writing t v n x (is-underway t writing v n hv has hn) hx))
       ∙ go (isLast t writing v (suc n)) refl
       (λ more. writes-from bytes k′ m f v (suc n) x hv has hx (rw (length-set k r (writtenByte t (λ q. getD k q 0) v x r)) hk) hm more (omega arith)
-      (λ i hi hs. getD-set-other k r (registerTaken t writing v i) _ 0 (once-apart (registersOf t writing v) n i (registers-once t writing v) hi hs) ∙ same i (omega arith) hs)))
+      (λ i hi hs. getD-set-other k r (registerTaken t writing v i) _ 0 (once-apart (registersOf t writing v) n i (each-once t writing v .once) hi hs) ∙ same i (omega arith) hs)))
       ∙ sym (next-offer (offeredWrite f v x) (registersOf t writing v) n (suc (length bytes)) _ hn)
     where
       r : ℕ
@@ -273,7 +273,7 @@ module _ (t : Tables) (s : State) (v : ℕ) where
       reads-from t ok bytes (s .kept) (s .marks) (broughtFor (registersOf t reading v) bytes) v 0 0 hv here (gathered-none t v) hk hm
       (some-step t (consistent t ok) reading v hv here) (omega arith)
       (λ i hi.
-      brought-at (registersOf t reading v) bytes i (registers-once t reading v) (omega arith) hi
+      brought-at (registersOf t reading v) bytes i (each-once t reading v .once) (omega arith) hi
       ∙ ap (λ (q : ℕ). broughtFor (registersOf t reading v) bytes (registerTaken t reading v q)) (sym (zero-add i)))
       (λ j hj nothing. absurd nothing)
       ∙ ap (λ (n : ℕ). take (suc (length bytes)) (map Offered (readPlan t v) ++ (Done (valueRead t v bytes) n ∷ []))) (sym count))

@@ -1,16 +1,16 @@
 -- An answer in the words of document 01: the number that a refusal has there, and the values that the other answers give.
--- proofs/Refusals.antt proves `Refuses` of the five calls, by the lists of tests in Calls.antt, and of the code that keeps its promise.
+-- proofs/Refusals.antt proves `CanGive`, and `Refuses` of the five calls, by the lists of tests in Calls.antt, and of the code that keeps its promise.
 -- Assumes nothing.
 use Prim.Native.Nat.{ℕ}
 use mathlib.Core.Path.{_≡_}
-use mathlib.Core.Bool.{Bool, cond, not}
-use mathlib.Core.List.{List, [], _∷_}
+use mathlib.Core.Bool.{Bool, true, false, cond}
+use mathlib.Core.List.{List, [], _∷_, map}
 use mathlib.Core.Option.{Option, none, some}
 use lib.IntN.{ℤ, pos}
 use Rattle.tables.specs.View.{Tables, partNo}
 use Rattle.station.specs.declared.Answer.{Answer}
 use Rattle.station.specs.declared.Answer.the-variants.{Refused, Opened, Offer as Offered, Done, Abandoned as Ended}
-use Rattle.station.specs.Calls.{State, Outcome, Test, checked, isInHand}
+use Rattle.station.specs.Calls.{State, Outcome, Test, openingTests, readTests, writeTests, endTests, isInHand, isAllowed}
 
 -- 20 to 28 for a refusal, none for the other answers
 abbrev pub refusalOf : Answer → Option ℕ
@@ -33,9 +33,17 @@ unfoldable pub lowestOf : List Test → Option ℕ
 lowestOf [] = none
 lowestOf (test ∷ tests) = cond (test .0) (some (test .1)) (lowestOf tests)
 
--- what a confirm or an abandon can be refused with: 20 to 22 and 24
-abbrev pub endTests : (Tables → Bool) → Tables → State → List Test
-endTests sound t s = checked sound t s ((not (isInHand (s .operation)), 24) ∷ [])
+abbrev pub numbersOf : List Test → List ℕ
+numbersOf tests = map (λ (test : Test). test .1) tests
+
+-- "An opening can give 20 and 21; a begin 20 to 23 and 25 to 28; a confirm or abandon 20 to 22 and 24; 22 needs an operation in hand": they stand in
+-- order of number, so the first that holds is the lowest
+pub record CanGive (sound : Tables → Bool) (t : Tables) (s : State) : Type 0 where
+  pub an-opening : (power : List ℕ) → numbersOf (openingTests sound t power s) ≡ 20 ∷ 21 ∷ []
+  pub a-read : (v : ℕ) → numbersOf (readTests sound t s v) ≡ 20 ∷ 21 ∷ 22 ∷ 23 ∷ 25 ∷ 26 ∷ 28 ∷ []
+  pub a-write : (v : ℕ) (z : ℤ) → numbersOf (writeTests sound t s v z) ≡ 20 ∷ 21 ∷ 22 ∷ 23 ∷ 25 ∷ 26 ∷ 27 ∷ []
+  pub an-end : numbersOf (endTests sound t s) ≡ 20 ∷ 21 ∷ 22 ∷ 24 ∷ []
+  pub idle-allowed : isInHand (s .operation) ≡ false → isAllowed t (s .operation) ≡ true
 
 -- a call refuses by these tests: with the lowest number whose test holds, and with none where no test holds; and "all leave every record, mark
 -- and buffer unchanged and offer no access"

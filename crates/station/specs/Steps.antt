@@ -1,6 +1,7 @@
 -- Demand 2's step order: "Each read and write is exactly the accesses that the definition gives, in its order, and is called done at the last
--- confirmation and never sooner." The definition is a plan, a list of accesses that is made when the operation begins.
--- proofs/Stepping.antt proves `GoesByPlan` of both begins, from any state; proofs/ByteLaws.antt proves `ByteRight`.
+-- confirmation and never sooner." The definition is a plan, a list of accesses that is made when the operation begins. What a plan is stands here in the order of
+-- document 01, then what answers it gives. proofs/Stepping.antt proves `GoesByPlan` of both begins, from any state; proofs/Distinct.antt proves `EachOnce`,
+-- proofs/ByteLaws.antt `ByteRight`.
 -- Assumes nothing.
 use Prim.Native.Nat.{ℕ, suc, _≤_, _<_, _^_}
 use mathlib.Core.Path.{_≡_}
@@ -12,7 +13,7 @@ use lib.IntN.{ℤ}
 use lib.ListN.{length, take}
 use Rattle.tables.specs.declared.Part.{Part}
 use Rattle.tables.specs.declared.Part.the-variants.{Read as reading, Write as writing}
-use Rattle.tables.specs.View.{Tables, sound, registerWidth, isDot, isOne, kindOf, size, homeOf, spotOf, registersOf}
+use Rattle.tables.specs.View.{Tables, sound, Among, registerWidth, isDot, isOne, kindOf, size, homeOf, spotOf, registersOf}
 use Rattle.bits.specs.Bits.{bit, numberOf}
 use Rattle.bits.specs.Values.{encode, decode}
 use Rattle.station.specs.declared.Access.{Access}
@@ -21,21 +22,36 @@ use Rattle.station.specs.declared.Answer.the-variants.{Offer as Offered,
 use Rattle.station.specs.Calls.{State, Outcome, keptOf, accessAt, writtenByte, confirm}
 use Rattle.station.specs.Answers.{refusalOf}
 
--- ── the plan ──
+-- ── "Registers are taken in order of first mention in the part, each once." ──
 
--- "Registers are taken in order of first mention in the part, each once."
+-- no number stands twice in a list
+abbrev pub Once : List ℕ → Type 0
+Once [] = Unit {0}
+Once (r ∷ rest) = (Among r rest → ⊥) × Once rest
+
+-- `registersOf`, the order of first mention, has the register of each bit of the part, each once, and no other: so it is as long as "the part has
+-- distinct registers"
+pub record EachOnce (t : Tables) (part : Part) (v : ℕ) : Type 0 where
+  pub once : Once (registersOf t part v)
+  pub every : (j : ℕ) → j < size t part v → Among (homeOf t part v j) (registersOf t part v)
+  pub only : (r : ℕ) → Among r (registersOf t part v) → (j : ℕ) × (j < size t part v) × (homeOf t part v j ≡ r)
+
+-- ── "An access gives direction, parameter, offset, byte (0 when reading)." ──
+
+-- an access for each register, with its byte
 abbrev pub plan : Tables → Part → ℕ → (ℕ → ℕ) → List Access
 plan t part v byteFor = map (λ (r : ℕ). accessAt t part r (byteFor r)) (registersOf t part v)
 
--- a read's bytes are 0; a write's are made from the value and from the record as it is at the begin
 abbrev pub readPlan : Tables → ℕ → List Access
 readPlan t v = plan t reading v (λ r. 0)
 
+-- a write's bytes are made from the value, and from the record as it is at the begin
 abbrev pub writePlan : Tables → State → ℕ → ℤ → List Access
 writePlan t s v z = plan t writing v (writtenByte t (keptOf s) v (encode (size t writing v) z))
 
--- "The byte written takes the variable's bits from the value, other dot bits from the record, `0` and `1` from the mask, `*` as 0." `writtenByte`
--- is the byte of register r that does so for the bits x of variable v, and no other byte does
+-- ── "The byte written takes the variable's bits from the value, other dot bits from the record, `0` and `1` from the mask, `*` as 0." ──
+
+-- `writtenByte` is the byte of register r that does so for the bits x of variable v, and no other byte does
 pub record ByteRight (t : Tables) (kept : ℕ → ℕ) (v x r byte : ℕ) : Type 0 where
   pub own : (j : ℕ) → j < size t writing v → homeOf t writing v j ≡ r → bit (spotOf t writing v j) byte ≡ bit j x
   pub other-dots : (b : ℕ) → b < registerWidth t r → isDot t writing r b ≡ true
@@ -43,7 +59,7 @@ pub record ByteRight (t : Tables) (kept : ℕ → ℕ) (v x r byte : ℕ) : Type
   pub from-mask : (b : ℕ) → b < registerWidth t r → isDot t writing r b ≡ false → bit b byte ≡ isOne t writing r b
   pub narrow : byte < 2 ^ registerWidth t r
 
--- ── the value of a read ──
+-- ── "Reading uses only the variable's bits; fixed read bits aren't compared. Signed values are two's complement." ──
 
 -- the byte that the confirmations, one for each of these registers, brought for register r
 abbrev pub broughtFor : List ℕ → List ℕ → ℕ → ℕ
@@ -51,28 +67,28 @@ broughtFor [] bytes r = 0
 broughtFor (s ∷ registers) [] r = 0
 broughtFor (s ∷ registers) (byte ∷ bytes) r = cond (eqb r s) byte (broughtFor registers bytes r)
 
--- "Reading uses only the variable's bits": each from the byte of its register
+-- each of the variable's bits from the byte of its register
 abbrev pub valueRead : Tables → ℕ → List ℕ → ℤ
 valueRead t v bytes =
     decode (kindOf t v) (size t reading v)
     (numberOf (size t reading v) (λ j. bit (spotOf t reading v j) (broughtFor (registersOf t reading v) bytes (homeOf t reading v j))))
 
--- ── the answers ──
+-- ── "A begin offers the first access; each confirmation offers the next or says done." ──
 
--- to a begin, whose outcome this is, and to the confirmations that bring these bytes
+-- the answers to a begin, whose outcome this is, and to the confirmations that bring these bytes
 unfoldable pub answersOf : Tables → Outcome → List ℕ → List Answer
 answersOf t o [] = o .answer ∷ []
 answersOf t o (byte ∷ bytes) = o .answer ∷ answersOf t (confirm sound t (o .state) byte) bytes
 
--- each access of the plan is offered, in its order, and then done is said
+-- each access of the plan is offered, in its order, and then done is said: "Done gives the value and the number of accesses"
 abbrev pub offersThenDone : List Access → ℤ → List Answer
 offersThenDone accesses value = map Offered accesses ++ (Done value (length accesses) ∷ [])
 
--- a begin that was not refused is answered so, up to each of its confirmations
+-- a begin that was not refused is answered so, up to each of its confirmations; a write's confirmations bring "a byte that is ignored"
 pub record GoesByPlan (t : Tables) (begin : Outcome) (accesses : List Access) (value : List ℕ → ℤ) : Type 0 where
   pub answers : refusalOf (begin .answer) ≡ none → (bytes : List ℕ) → length bytes ≤ length accesses
       → answersOf t begin bytes ≡ take (suc (length bytes)) (offersThenDone accesses (value bytes))
-  -- with all of them confirmed, that is every answer
+  -- "An operation ends after exactly as many confirmations as the part has distinct registers": with all of them, that is every answer
   pub whole : refusalOf (begin .answer) ≡ none → (bytes : List ℕ) → length bytes ≡ length accesses
       → answersOf t begin bytes ≡ offersThenDone accesses (value bytes)
   -- "at most 8"
