@@ -1,4 +1,5 @@
--- What words mean: an operation comes back from its words, no two answers have the same ones, and words that are no operation are refused by 22.
+-- What words mean: an operation comes back from its words, no two answers have the same ones, words that are no operation are refused by 22, and no
+-- call's promise leaves room for a second answer.
 -- Assumes nothing.
 use Prim.Native.Nat.{ℕ, _≤_, _<_, _^_}
 use mathlib.Core.Path.{_≡_, _∙_, refl, sym, ap}
@@ -18,6 +19,9 @@ use Rattle.station.specs.declared.Operation.the-variants.{Idle, Reading, Writin
 use Rattle.station.specs.declared.Answer.{Answer}
 use Rattle.station.specs.declared.Answer.the-variants.{Refused, Opened, Offer as Offered, Done, Abandoned as Ended}
 use Rattle.station.specs.Calls.{State, Outcome, Test, refused, unless, isLong, isUnderway, isAllowed, checked}
+use Rattle.loader.specs.Load.{Loaded}
+use Rattle.abi.specs.Loading.{TellsLoaded}
+use Rattle.abi.specs.Told.{Tells}
 use Rattle.abi.specs.Words.{written, operationWords, noOperation, ofKind, operationOf, answerWords}
 
 -- ── the operation in hand ──
@@ -90,3 +94,45 @@ answer-back Ended = refl
 
 pub told-apart : (a b : Answer) → answerWords a ≡ answerWords b → a ≡ b
 told-apart a b same = sym (answer-back a) ∙ ap answerOf same ∙ answer-back b
+
+-- ── no second answer ──
+
+-- what a call of the station may leave is one record, one list of marks, one operation, one answer and one number
+pub record SameTold (kept kept′ marks marks′ operation operation′ : List ℕ) (answer answer′ : List ℤ) (number number′ : ℕ) : Type 0 where
+  pub records : kept ≡ kept′
+  pub lists : marks ≡ marks′
+  pub operations : operation ≡ operation′
+  pub answers : answer ≡ answer′
+  pub numbers : number ≡ number′
+
+pub only-one-told : {o : Outcome} {lent : List ℕ} {old : List ℤ} {kept kept′ marks marks′ operation operation′ : List ℕ} {answer answer′ : List ℤ} {number number′ : ℕ}
+    → Tells o lent old kept marks operation answer number → Tells o lent old kept′ marks′ operation′ answer′ number′
+    → SameTold kept kept′ marks marks′ operation operation′ answer answer′ number number′
+only-one-told one two =
+    record {
+      records = one .kept-is ∙ sym (two .kept-is);
+      lists = one .marks-is ∙ sym (two .marks-is);
+      operations = one .operation-is ∙ sym (two .operation-is);
+      answers = one .answer-is ∙ sym (two .answer-is);
+      numbers = one .number-is ∙ sym (two .number-is);
+    }
+
+-- and what a load may leave are three tables, one answer and one number
+pub record SameLoaded (parameters parameters′ registers registers′ variables variables′ answer answer′ : List ℕ) (number number′ : ℕ) : Type 0 where
+  pub same-parameters : parameters ≡ parameters′
+  pub same-registers : registers ≡ registers′
+  pub same-variables : variables ≡ variables′
+  pub answers : answer ≡ answer′
+  pub numbers : number ≡ number′
+
+pub only-one-loaded : {l : Loaded} {old parameters parameters′ registers registers′ variables variables′ answer answer′ : List ℕ} {number number′ : ℕ}
+    → TellsLoaded l old parameters registers variables answer number → TellsLoaded l old parameters′ registers′ variables′ answer′ number′
+    → SameLoaded parameters parameters′ registers registers′ variables variables′ answer answer′ number number′
+only-one-loaded one two =
+    record {
+      same-parameters = one .parameters-are ∙ sym (two .parameters-are);
+      same-registers = one .registers-are ∙ sym (two .registers-are);
+      same-variables = one .variables-are ∙ sym (two .variables-are);
+      answers = one .told .answer-is ∙ sym (two .told .answer-is);
+      numbers = one .told .number-is ∙ sym (two .told .number-is);
+    }

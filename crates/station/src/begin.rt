@@ -67,6 +67,7 @@ fn begin_fault(
     0
 }
 
+// Begins to read a variable: the answer offers its first access, or refuses.
 pub fn begin_read(
     parameters: &[u32],
     registers: &[u32],
@@ -102,6 +103,7 @@ pub fn begin_read(
     offer_read(registers, variables, v, 0, 0)
 }
 
+// Begins to write a value to a variable: the answer offers its first access, or refuses. Nothing is recorded before it is confirmed.
 pub fn begin_write(
     parameters: &[u32],
     registers: &[u32],

@@ -86,6 +86,7 @@ fn record_byte(
     held[r] = byte;
 }
 
+// The access on offer was performed, and brought this byte: the answer offers the next one, or says done.
 pub fn confirm(
     parameters: &[u32],
     registers: &[u32],

@@ -60,6 +60,7 @@ fn open_fault(
     0
 }
 
+// Opens the station on these tables: every other call goes on from the record and the marks that it leaves.
 pub fn open(
     parameters: &[u32],
     registers: &[u32],
