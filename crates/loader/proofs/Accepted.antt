@@ -54,12 +54,12 @@ start =
     }
 
 -- ---- what it is to be accepted
-record Accepting (p : Progress State) : Type 0 where
-  reads : went (p .step) ≡ 1
-  faultless : isFault (p .made .fault) ≡ false
-  covering : ltb (firstUncovered (p .made .registers) (p .made .variables)) (countOf (p .made .registers)) ≡ false
+pub record Accepting (p : Progress State) : Type 0 where
+  pub reads : went (p .step) ≡ 1
+  pub faultless : isFault (p .made .fault) ≡ false
+  pub covering : ltb (firstUncovered (p .made .registers) (p .made .variables)) (countOf (p .made .registers)) ≡ false
 
-accepting : (p : Progress State) → isAccepted (verdictOf p) ≡ true → Accepting p
+pub accepting : (p : Progress State) → isAccepted (verdictOf p) ≡ true → Accepting p
 unfolding verdictOf onceRead judgedAs isAccepted
 accepting p h = go (p .step) refl (isFault (p .made .fault)) refl (ltb (firstUncovered (p .made .registers) (p .made .variables)) (countOf (p .made .registers))) refl
   where
@@ -153,7 +153,7 @@ module _ (p : Progress State) (reached : Reached p) (some : Some p) (a : Accepti
 
 -- ---- the claim
 module _ (text : List ℕ) where
-  reached-judged : Reached (judged text)
+  pub reached-judged : Reached (judged text)
   unfolding judged
   reached-judged = subst Reached (reading-folds (judge text) text beginning) (reached-reading text beginning start)
 

@@ -1,6 +1,7 @@
 -- Laws that belong to no one function.
 pub mod LoadSteps
 pub mod PieceCounts
+pub mod ReadKeeps
 pub mod ShapeLaws
 pub mod ReadyLaws
 pub mod VariableReady
@@ -9,4 +10,10 @@ pub mod CountLaws
 pub mod LoadLaws
 pub mod GrowingVariable
 pub mod ReadGrowing
+-- What is accepted can be opened.
 pub mod Accepted
+-- The answer of loading, exactly.
+pub mod FirstLaws
+pub mod Breaking
+pub mod Tallied
+pub mod Exactly

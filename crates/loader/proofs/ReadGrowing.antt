@@ -6,8 +6,7 @@ use mathlib.Core.Path.{_≡_, refl, sym, ap, _∙_, subst}
 use mathlib.Core.Bool.{Bool, true, false}
 use mathlib.Core.List.{List}
 use lib.Dec.{eqb, leb}
-use lib.ListN.{length, replicate}
-use borrow.Author.Tests.{leb-false}
+use lib.ListN.{length}
 use Rattle.token.specs.Kind.{kindOf}
 use Rattle.token.specs.Scan.{scanAt}
 use Rattle.syntax.specs.declared.reader.Step.{Step}
@@ -15,13 +14,11 @@ use Rattle.syntax.specs.declared.reader.Step.the-variants.{At, Refused}
 use Rattle.syntax.specs.declared.reader.Named.{Named}
 use Rattle.syntax.specs.declared.register.Register.{Register}
 use Rattle.syntax.specs.KindNames.{sign, end-kind, 'register', 'variable'}
-use Rattle.syntax.specs.Limits.{mostParameters, mostRegisters, mostVariables}
+use Rattle.syntax.specs.Limits.{mostRegisters, mostVariables}
 use Rattle.syntax.specs.Reader.{seenAt, placeAt, fixedAfter, unexpected}
-use Rattle.syntax.specs.Heading.{headAfter}
-use Rattle.syntax.specs.Parameter.{tooMany, extraName, parameterAfter}
-use Rattle.syntax.specs.Register.{registerAfter}
-use Rattle.syntax.specs.Variable.{VariableRead, variableAfter}
-use Rattle.syntax.specs.Text.{Declaration, aDevice, aParameter, aRegister, aVariable, Progress, begins, extraWord, movedTo, counted, taken, headWith, parameterWith, moreParameters, registerWith, variableWith, declarationWith, moreDeclarations, parametersWith, declarationsWith, readingWith}
+use Rattle.syntax.specs.Parameter.{ParameterRead, tooMany}
+use Rattle.syntax.specs.Variable.{VariableRead}
+use Rattle.syntax.specs.Text.{aDevice, aParameter, aRegister, aVariable, Progress, begins, extraWord, movedTo, counted, taken, registerWith, variableWith, declarationWith, moreDeclarations, declarationsWith, readingWith}
 use Rattle.rules.specs.Fault.{isFault}
 use Rattle.rules.specs.State.{State, unlessStopped}
 use Rattle.rules.specs.Parameter.{judgeDevice, judgeParameter}
@@ -29,8 +26,9 @@ use Rattle.rules.specs.Register.{judgeRegister}
 use Rattle.rules.specs.Variable.{judgeVariable}
 use Rattle.loader.specs.Judge.{judge}
 use Rattle.syntax.proofs.LoopSteps.{loop-keeps}
-use Rattle.rules.proofs.ParameterShape.{parameter-sets}
-use Rattle.loader.proofs.PieceCounts.{well-read}
+use Rattle.rules.proofs.ParameterShape.{Sets}
+use Rattle.loader.proofs.PieceCounts.{WellRead}
+use Rattle.loader.proofs.ReadKeeps.{parameters-keep, declarations-keep}
 use Rattle.rules.proofs.FaultLaws.{no-number, has-number}
 use Rattle.rules.proofs.Growing.{Growing, grow-parameter, grow-register}
 use Rattle.loader.proofs.GrowingVariable.{grow-variable}
@@ -100,21 +98,9 @@ module _ (text : List ℕ) where
         no-variable = h .no-variable;
       }
 
-  heading-taken : (p : Progress State) (d : Declaration) (s : Step) → Heading p → ((next : ℕ) → Heading (counted (judge text) p d next))
-      → Heading (taken (judge text) p d s)
-  unfolding taken
-  heading-taken p d (At next) h f = f next
-  heading-taken p d (Refused number place) h f = heading-moved p (Refused number place) h
-
-  heading-head : (p : Progress State) → Heading p → Heading (headWith (judge text) text p)
-  unfolding headWith
-  heading-head p h = heading-taken p _ _ h (λ next. head-counted p (headAfter text (p .step)) next h)
-
-  parameter-counted : (p : Progress State) (s : Step) (next : ℕ) → p .parameters < 16 → Heading p
-      → Heading (counted (judge text) p (aParameter (parameterAfter text (replicate 32 0) s)) next)
+  parameter-counted : (p : Progress State) (d : ParameterRead) (next : ℕ) → p .parameters < 16 → Sets d → Heading p → Heading (counted (judge text) p (aParameter d) next)
   unfolding counted judge
-  parameter-counted p s next few h =
-      let d = parameterAfter text (replicate 32 0) s in
+  parameter-counted p d next few sets h =
       record {
         reached =
             record {
@@ -122,33 +108,11 @@ module _ (text : List ℕ) where
               few-registers = h .reached .few-registers;
               few-variables = h .reached .few-variables;
               grown = grown-by (p .made) (judgeParameter text (p .made) d) (h .reached .grown)
-                  (λ g z. grow-parameter text (p .made) d g (parameter-sets text s) (h .no-register) (h .no-variable) few z);
+                  (λ g z. grow-parameter text (p .made) d g sets (h .no-register) (h .no-variable) few z);
             };
         no-register = h .no-register;
         no-variable = h .no-variable;
       }
-
-  heading-parameter : (p : Progress State) → Heading p → Heading (parameterWith (judge text) text p)
-  unfolding parameterWith
-  heading-parameter p h = go (leb mostParameters (p .parameters)) refl
-    where
-      go : (b : Bool) → leb mostParameters (p .parameters) ≡ b → Heading (parameterWith (judge text) text p)
-      go true e = rw e (heading-moved p (extraName text (p .step)) h)
-      go false e = rw e (heading-taken p _ _ h (λ next. parameter-counted p (p .step) next (leb-false mostParameters (p .parameters) e) h))
-
-  heading-parameters : (p : Progress State) → Heading p → Heading (parametersWith (judge text) text p)
-  unfolding parametersWith moreParameters
-  heading-parameters p h =
-      heading-moved _ _
-      (loop-keeps text (λ q. q .step) (λ kind. eqb kind (sign ",")) (λ q. parameterWith (judge text) text (movedTo q (seenAt text (q .step) .past))) Heading
-      (λ q e k. heading-parameter (movedTo q (seenAt text (q .step) .past)) (heading-moved q (seenAt text (q .step) .past) k)) (length text) _
-      (heading-parameter _ (heading-head p h)))
-
-  reached-taken : (p : Progress State) (d : Declaration) (s : Step) → Reached p → ((next : ℕ) → Reached (counted (judge text) p d next))
-      → Reached (taken (judge text) p d s)
-  unfolding taken
-  reached-taken p d (At next) h f = f next
-  reached-taken p d (Refused number place) h f = moved p (Refused number place) h
 
   register-counted : (p : Progress State) (d : Register) (next : ℕ) → p .registers < 64 → Reached p → Reached (counted (judge text) p (aRegister d) next)
   unfolding counted judge
@@ -160,56 +124,24 @@ module _ (text : List ℕ) where
         grown = grown-by (p .made) (judgeRegister text (p .made) d) (h .grown) (λ g z. grow-register text (p .made) d g few (h .few-parameters) z);
       }
 
-  reached-register : (p : Progress State) → Reached p → Reached (registerWith (judge text) text p)
-  unfolding registerWith
-  reached-register p h = go (leb mostRegisters (p .registers)) refl
-    where
-      go : (b : Bool) → leb mostRegisters (p .registers) ≡ b → Reached (registerWith (judge text) text p)
-      go true e = rw e (moved p (extraWord text 'register' (p .step)) h)
-      go false e = rw e (reached-taken p _ _ h (λ next. register-counted p (registerAfter text (p .step)) next (leb-false mostRegisters (p .registers) e) h))
-
-  variable-counted : (p : Progress State) (s : Step) (next : ℕ) → p .variables < 128 → Reached p
-      → Reached (counted (judge text) p (aVariable (variableAfter text (replicate 40 0) (replicate 40 0) s)) next)
+  variable-counted : (p : Progress State) (d : VariableRead) (next : ℕ) → p .variables < 128 → WellRead (d .variable) → Reached p
+      → Reached (counted (judge text) p (aVariable d) next)
   unfolding counted judge
-  variable-counted p s next few h =
-      let d = variableAfter text (replicate 40 0) (replicate 40 0) s in
+  variable-counted p d next few read h =
       record {
         few-parameters = h .few-parameters;
         few-registers = h .few-registers;
         few-variables = omega arith;
         grown = grown-by (p .made) (judgeVariable text (p .made) d) (h .grown)
-            (λ g z. grow-variable text (p .made) d g (well-read text (replicate 40 0) (replicate 40 0) s) few z);
+            (λ g z. grow-variable text (p .made) d g read few z);
       }
-
-  reached-variable : (p : Progress State) → Reached p → Reached (variableWith (judge text) text p)
-  unfolding variableWith
-  reached-variable p h = go (leb mostVariables (p .variables)) refl
-    where
-      go : (b : Bool) → leb mostVariables (p .variables) ≡ b → Reached (variableWith (judge text) text p)
-      go true e = rw e (moved p (extraWord text 'variable' (p .step)) h)
-      go false e = rw e (reached-taken p _ _ h (λ next. variable-counted p (p .step) next (leb-false mostVariables (p .variables) e) h))
-
-  reached-declaration : (p : Progress State) → Reached p → Reached (declarationWith (judge text) text p)
-  unfolding declarationWith
-  reached-declaration p h = go (eqb (seenAt text (p .step) .kind) 'register') refl
-    where
-      go : (b : Bool) → eqb (seenAt text (p .step) .kind) 'register' ≡ b → Reached (declarationWith (judge text) text p)
-      go true e = rw e (reached-register p h)
-      go false e = rw e (reached-variable p h)
-
-  pub reached-declarations : (p : Progress State) → Reached p → Reached (declarationsWith (judge text) text p)
-  unfolding declarationsWith moreDeclarations
-  reached-declarations p h =
-      moved _ _
-      (loop-keeps text (λ q. q .step) begins (declarationWith (judge text) text) Reached (λ q e k. reached-declaration q k) (length text) _
-      (reached-declaration _ (moved p _ h)))
 
   pub reached-reading : (x : State) → Growing 0 0 0 x → Reached (readingWith (judge text) text x)
   unfolding readingWith
   reached-reading x g =
       moved _ _
-      (reached-declarations _
-      (heading-parameters _
+      (declarations-keep (judge text) text Reached moved register-counted variable-counted _
+      (parameters-keep (judge text) text Heading heading-moved head-counted parameter-counted _
       (record {
         reached = record { few-parameters = omega arith; few-registers = omega arith; few-variables = omega arith; grown = λ z. g };
         no-register = refl;

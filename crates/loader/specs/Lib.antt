@@ -2,3 +2,5 @@
 pub mod Judge
 pub mod Ready
 pub mod Load
+-- What loading comes to, in the words of document 01.
+pub mod Claim
