@@ -17,3 +17,8 @@ pub mod FirstLaws
 pub mod Breaking
 pub mod Tallied
 pub mod Exactly
+-- What is accepted is described.
+pub mod MoreLaws
+pub mod Entries
+pub mod GrowsLaws
+pub mod Describing

@@ -5,7 +5,7 @@ use native.Mathlib.Omega.{arith}
 use native.Mathlib.Nat.{min-eq-left}
 use mathlib.Core.Path.{_≡_, refl, sym, ap, _∙_, subst}
 use mathlib.Core.Bool.{Bool, true, false, _&&_, _||_, cond, false≢true}
-use mathlib.Core.List.{List, _∷_}
+use mathlib.Core.List.{List, _∷_, _++_}
 use lib.Dec.{eqb, leb}
 use lib.ListN.{length, getD, replicate, length-set, getD-replicate, List·getD-eq-default}
 use lib.Seq.{getD-set-other, getD-set-same}
@@ -17,10 +17,11 @@ use Rattle.tables.specs.Rules.{variablePartShape, variableShape}
 use Rattle.tables.proofs.Laws.{every-same}
 use Rattle.tables.proofs.ZeroLaws.{zeros-every, zeros-are}
 use Rattle.tables.proofs.SameLaws.{and-same}
-use Rattle.rules.specs.Words.{wordOf, written}
+use Rattle.rules.specs.Words.{wordOf, written, appended}
 use Rattle.rules.specs.Lists.{pieceWords, piecesOn, piecesOf, partWords}
 use Rattle.rules.specs.Variable.{flagOf, triggers, headWords, withVariable}
 use Rattle.rules.proofs.FrameLaws.{written-below}
+use Rattle.rules.proofs.WordLaws.{appended-three}
 use Rattle.rules.proofs.WrittenLaws.{length-written, written-at, written-above}
 
 -- ---- the pieces of a list: 24 words, zero behind the last piece
@@ -137,6 +138,15 @@ module _ (vs : List ℕ) (d : Variable) (first second : List ℕ) (read write : 
 
   abbrev entered : List ℕ
   entered = withVariable vs d first second read write
+
+  -- written in one run
+  pub entry-appended : length reads ≡ 27 → entered ≡ appended 59 vs (headWords d ++ reads ++ writes)
+  unfolding withVariable headWords
+  entry-appended r =
+      let p : variablePart at 0 ≡ 59 * at + 1 + 5 = omega arith in
+      let q : variablePart at 1 ≡ 59 * at + 1 + 32 = omega arith in
+      appended-three 59 vs (headWords d) reads writes refl (omega (arith, r)) refl refl (ap (λ (n : ℕ). written headed n reads) p)
+      (ap (λ (n : ℕ). written half n writes) q) refl
 
   headed-length : length headed ≡ length vs
   headed-length = length-written vs (variableAt at) (headWords d)

@@ -2,5 +2,6 @@
 pub mod Judge
 pub mod Ready
 pub mod Load
--- What loading comes to, in the words of document 01.
+-- What loading comes to, in the words of document 01, and what the tables then hold.
 pub mod Claim
+pub mod Describes
