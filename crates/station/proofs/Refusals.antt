@@ -9,11 +9,19 @@ use lib.IntN.{ℤ}
 use Rattle.tables.specs.declared.Part.the-variants.{Read as reading, Write as writing}
 use Rattle.tables.specs.View.{Tables}
 use Rattle.station.specs.declared.Operation.{Operation}
-use Rattle.station.specs.declared.Answer.the-variants.{Abandoned as Ended}
+use Rattle.station.specs.declared.Answer.{Answer}
+use Rattle.station.specs.declared.Answer.the-variants.{Refused, Opened, Offer as Offered, Done, Abandoned as Ended}
 use Rattle.station.specs.declared.Outcome as Code
 use Rattle.station.specs.Calls.{Idle, Reading, Writing, State, Outcome, Test, refused, unless, checked, readTests, writeTests, openingTests, endTests, isInHand, isAllowed, confirmed, abandoned, readOn, writeOn, isLast, gather, registerTaken, keeping, writeAccess, opening, beginRead, beginWrite, confirm, abandon}
-use Rattle.station.specs.Answers.{refusalOf, lowestOf, CanGive, Refuses}
+use Rattle.station.specs.Answers.{refusalOf, valuesOf, lowestOf, CanGive, Refuses}
 use Rattle.station.specs.Promise.{Meets}
+
+abbrev IsNone : Option ℕ → Type 0
+IsNone none = Unit {0}
+IsNone (some n) = ⊥
+
+pub some≢none : (n : ℕ) → _≡_ {A = Option ℕ} (some n) none → ⊥
+some≢none n e = subst IsNone (sym e) tt
 
 -- ── an outcome behind tests ──
 
@@ -43,16 +51,20 @@ lowest-refuses (test ∷ tests) s o passes = go (test .0) (lowest-refuses tests 
     go true rest = refl
     go false rest = rest
 
-abbrev IsNone : Option ℕ → Type 0
-IsNone none = Unit {0}
-IsNone (some n) = ⊥
+gives-nothing : (n : ℕ) (answer : Answer) → refusalOf answer ≡ some n → valuesOf answer ≡ []
+gives-nothing n (Refused m) e = refl
+gives-nothing n Opened e = absurd (some≢none n (sym e))
+gives-nothing n (Offered access) e = absurd (some≢none n (sym e))
+gives-nothing n (Done value accesses) e = absurd (some≢none n (sym e))
+gives-nothing n Ended e = absurd (some≢none n (sym e))
 
 refuses : (tests : List Test) (s : State) (o : Outcome) → refusalOf (o .answer) ≡ none → Refuses tests s (unless tests s o)
 refuses tests s o passes =
     record {
       number = lowest-refuses tests s o passes;
       leaves = λ n. unless-cases (λ u. refusalOf (u .answer) ≡ some n → u .state ≡ s) tests s o (λ m e. refl)
-          (λ none-holds e. absurd (subst IsNone (sym passes ∙ e) tt));
+          (λ none-holds e. absurd (some≢none n (sym e ∙ passes)));
+      offers-none = λ n. gives-nothing n (unless tests s o .answer);
     }
 
 -- ── the calls ──

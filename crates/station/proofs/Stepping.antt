@@ -5,7 +5,7 @@ use mathlib.Core.Path.{_≡_, refl, sym, ap, ap₂, _∙_, subst}
 use mathlib.Core.Logic.{_⊎_, inl, inr}
 use mathlib.Core.Bool.{Bool, true, false, cond, not}
 use mathlib.Core.List.{List, [], _∷_, _++_, map}
-use mathlib.Core.Option.{Option, none, some}
+use mathlib.Core.Option.{none}
 use native.Mathlib.Nat.{zero-add, le-of-suc-le-suc, not-suc-le-zero}
 use native.Mathlib.Omega.{arith}
 use lib.Arith.{lt-of-le-ne}
@@ -32,7 +32,7 @@ use Rattle.station.proofs.ByteLaws.{gather-here, gather-there}
 use Rattle.station.proofs.Registers.{mentioned, some-step}
 use Rattle.station.proofs.Distinct.{each-once, once-apart, at-most-8}
 use Rattle.station.proofs.Underway.{is-underway, allow-reading, allow-writing, gathered-none, gathered-more, gather-lt}
-use Rattle.station.proofs.Refusals.{unless-cases}
+use Rattle.station.proofs.Refusals.{some≢none, unless-cases}
 
 -- ── lists ──
 
@@ -218,13 +218,6 @@ module _ (t : Tables) (ok : sound t ≡ true) where
       go false e rest = rest (lt-of-le-ne hn (eqb-false (suc n) _ e))
 
 -- ── from a begin ──
-
-abbrev IsNone : Option ℕ → Type 0
-IsNone none = Unit {0}
-IsNone (some n) = ⊥
-
-some≢none : (n : ℕ) → _≡_ {A = Option ℕ} (some n) none → ⊥
-some≢none n e = subst IsNone (sym e) tt
 
 -- 20 and 21 as facts
 stands : (t : Tables) (s : State) → not (sound t) ≡ false → not (isLong t s) ≡ false

@@ -45,8 +45,9 @@ pub record CanGive (sound : Tables → Bool) (t : Tables) (s : State) : Type 0 w
   pub an-end : numbersOf (endTests sound t s) ≡ 20 ∷ 21 ∷ 22 ∷ 24 ∷ []
   pub idle-allowed : isInHand (s .operation) ≡ false → isAllowed t (s .operation) ≡ true
 
--- a call refuses by these tests: with the lowest number whose test holds, and with none where no test holds; and "all leave every record, mark
+-- a call refuses by these tests: with the lowest number whose test holds, and with none where no test holds. "All leave every record, mark
 -- and buffer unchanged and offer no access"
 pub record Refuses (tests : List Test) (s : State) (o : Outcome) : Type 0 where
   pub number : refusalOf (o .answer) ≡ lowestOf tests
   pub leaves : (n : ℕ) → refusalOf (o .answer) ≡ some n → o .state ≡ s
+  pub offers-none : (n : ℕ) → refusalOf (o .answer) ≡ some n → valuesOf (o .answer) ≡ []
