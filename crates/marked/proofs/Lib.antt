@@ -1,1 +1,6 @@
-pub mod Verdicts
+-- In the order of reading.
+pub mod Computing
+pub mod Rows
+pub mod Strides
+pub mod Many
+pub mod Cases
