@@ -1,6 +1,7 @@
 -- Judging in order names the first declaration that breaks a rule: a fault, once there, stays.
 -- Assumes nothing.
-use Prim.Native.Nat.{ℕ}
+use Prim.Native.Nat.{ℕ, _≤_}
+use native.Mathlib.Omega.{arith}
 use mathlib.Core.Path.{_≡_, refl, sym, ap, _∙_, subst}
 use mathlib.Core.Bool.{Bool, true, false, not, false≢true}
 use mathlib.Core.List.{List, [], _∷_, _++_, foldl, foldl-append, append-assoc, append-nil}
@@ -14,10 +15,14 @@ use Rattle.rules.proofs.FaultLaws.{no-number, has-number}
 use Rattle.loader.specs.Judge.{judge}
 use Rattle.loader.specs.Load.{beginning}
 use Rattle.loader.specs.Claim.{standing, brokenBy, AllKeep, FirstBroken}
+use Rattle.loader.proofs.Numbers.{standing-number}
 
 pub is-fault : (f : Fault) → (f .number ≡ 0 → ⊥) → isFault f ≡ true
 unfolding isFault
 is-fault f n = ap not (ne-eqb (f .number) 0 n)
+
+pub not-none : {n : ℕ} → 6 ≤ n → n ≡ 0 → ⊥
+not-none l e = omega arith
 
 stopped-stays : (s next : State) → isFault (s .fault) ≡ true → unlessStopped s next .fault ≡ s .fault
 unfolding unlessStopped
@@ -83,7 +88,8 @@ module _ (text : List ℕ) where
             after = ds;
             splits = refl;
             before-keep = all-keep before none;
-            breaks = has-number (standing text all .fault) some;
+            least = standing-number text all (has-number (standing text all .fault) some) .0;
+            most = standing-number text all (has-number (standing text all .fault) some) .1;
             number-is = ap (λ (f : Fault). f .number) same;
             place-is = ap (λ (f : Fault). f .place) same;
           }
@@ -102,7 +108,7 @@ module _ (text : List ℕ) where
   pub broken-fault : (ds : List Declaration) (number place : ℕ) → FirstBroken text ds number place → standing text ds .fault ≡ record { number = number; place = place }
   broken-fault ds number place b =
       let f = brokenBy text (b .before) (b .it) in
-      let some : isFault f ≡ true = is-fault f (λ z. b .breaks (b .number-is ∙ z)) in
+      let some : isFault f ≡ true = is-fault f (λ z. not-none (b .least) (b .number-is ∙ z)) in
       ap (λ (x : List Declaration). standing text x .fault) (b .splits) ∙ broken-is (b .before) (b .after) (b .it) some ∙ rw (b .number-is, b .place-is)
 
   pub keep-faultless : (ds : List Declaration) → AllKeep text ds → isFault (standing text ds .fault) ≡ false
@@ -111,4 +117,4 @@ module _ (text : List ℕ) where
     where
       go : (b : Bool) → isFault (standing text ds .fault) ≡ b → isFault (standing text ds .fault) ≡ false
       go false e = e
-      go true e = let b = first-broken ds e in absurd (b .breaks (b .number-is ∙ keep (b .before) (b .after) (b .it) (b .splits)))
+      go true e = let b = first-broken ds e in absurd (not-none (b .least) (b .number-is ∙ keep (b .before) (b .after) (b .it) (b .splits)))

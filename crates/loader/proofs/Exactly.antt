@@ -1,6 +1,6 @@
 -- THE ANSWER OF LOADING: it is what specs/Claim.antt says, and nothing else is.
 -- Assumes nothing.
-use Prim.Native.Nat.{ℕ}
+use Prim.Native.Nat.{ℕ, _≤_}
 use native.Mathlib.Omega.{arith}
 use mathlib.Core.Path.{_≡_, refl, sym, ap, _∙_, subst}
 use mathlib.Core.Bool.{Bool, true, false, not, false≢true}
@@ -23,10 +23,11 @@ use Rattle.rules.specs.State.{State}
 use Rattle.rules.proofs.FaultLaws.{no-number}
 use Rattle.loader.specs.declared.whole.Verdict.{Verdict}
 use Rattle.loader.specs.declared.whole.Verdict.the-variants.{Accepted, Refused}
-use Rattle.loader.specs.Load.{judged, judgedAs, firstUncovered, onceRead, verdictOf, isShort, isLong, loadOf}
-use Rattle.loader.specs.Claim.{declared, tally, oneParameter, oneRegister, oneVariable, Reads, standing, mapped, AllMapped, FirstUnmapped, RightRead, RightVerdict}
+use Rattle.loader.specs.Load.{Loaded, judged, judgedAs, isAccepted, leftBy, laidOver, firstUncovered, onceRead, verdictOf, isShort, isLong, loadOf}
+use Rattle.loader.specs.Claim.{declared, tally, oneParameter, oneRegister, oneVariable, Reads, standing, mapped, AllMapped, FirstUnmapped, Unread, RightRead, RightVerdict, Leaves}
 use Rattle.loader.proofs.FirstLaws.{first-passes, first-before, first-all, first-only}
-use Rattle.loader.proofs.Breaking.{is-fault, all-keep, first-broken, broken-fault, keep-faultless}
+use Rattle.loader.proofs.Numbers.{reading-number}
+use Rattle.loader.proofs.Breaking.{is-fault, not-none, all-keep, first-broken, broken-fault, keep-faultless}
 use Rattle.loader.proofs.Tallied.{tallied}
 use Rattle.loader.proofs.Accepted.{reached-judged}
 
@@ -90,6 +91,9 @@ module _ (text : List ℕ) where
   unfolding Right
   reads-at end e = let r = answers-exactly text (At end) .0 e in (r .1, r .2)
 
+  unread : (number place : ℕ) → Right text (Stopped number place) → Unread text number place
+  unread number place r = let n = reading-number text number place r in record { least = n .0; most = n .1; stops = r }
+
   -- the tables count what the text declares
   record Counts : Type 0 where
     parameters : countOf (last .parameters) ≡ tally oneParameter all
@@ -110,7 +114,7 @@ module _ (text : List ℕ) where
     where
       go : (s : Step) → reading text .step ≡ s → (b : Bool) → isFault (last .fault) ≡ b → (c : Bool) → ltb (first last) (count last) ≡ c
           → RightRead text (verdictOf (judged text))
-      go (Stopped number place) e b f c g = subst (RightRead text) (sym (by-tests e f g)) (inl (answers-exactly text (Stopped number place) .0 e))
+      go (Stopped number place) e b f c g = subst (RightRead text) (sym (by-tests e f g)) (inl (unread number place (answers-exactly text (Stopped number place) .0 e)))
       go (At end) e true f c g = subst (RightRead text) (sym (by-tests e f g)) (inr (inl (reads-at end e, first-broken text all f)))
       go (At end) e false f true g =
           subst (RightRead text) (sym (by-tests e f g))
@@ -130,10 +134,10 @@ module _ (text : List ℕ) where
   -- ---- and no other is
   only-verdict : (v : Verdict) → RightRead text v → verdictOf (judged text) ≡ v
   unfolding RightRead onceRead
-  only-verdict (Refused number place) (inl r) = by-tests (answers-exactly text (Stopped number place) .1 r) refl refl
+  only-verdict (Refused number place) (inl r) = by-tests (answers-exactly text (Stopped number place) .1 (r .stops)) refl refl
   only-verdict (Refused number place) (inr (inl b)) =
       let f = broken-fault text all number place (b .1) in
-      by-tests (reads-exactly text .1 (b .0)) (ap isFault f ∙ is-fault (record { number = number; place = place }) (b .1 .breaks)) refl
+      by-tests (reads-exactly text .1 (b .0)) (ap isFault f ∙ is-fault (record { number = number; place = place }) (not-none (b .1 .least))) refl
       ∙ ap (λ (x : Fault). Refused (x .number) (x .place)) f
   only-verdict (Refused number place) (inr (inr m)) =
       let u = m .misses in
@@ -176,3 +180,35 @@ module _ (text : List ℕ) where
     -- NO SECOND VERDICT IS RIGHT.
     pub verdict-once : (v w : Verdict) → RightVerdict text t v → RightVerdict text t w → v ≡ w
     verdict-once v w a b = sym (only-answer v a) ∙ only-answer w b
+
+    -- ---- what is left
+    from-three : (number place : ℕ) → RightRead text (Refused number place) → 3 ≤ number
+    unfolding RightRead
+    from-three number place (inl r) = r .least
+    from-three number place (inr (inl r)) = omega (arith, r .1 .least)
+    from-three number place (inr (inr r)) = omega (arith, r .is-sixteen)
+
+    judged-leaves : (v : Verdict) → verdictOf (judged text) ≡ v → RightRead text v → Leaves text t v (laidOver (leftBy (judged text)) t)
+    unfolding Leaves leftBy isAccepted judged remade standing declared
+    judged-leaves (Accepted p r v) e right = rw e
+    judged-leaves (Refused number place) e right = inr (from-three number place right, rw e)
+
+    loaded-by : (a b : Bool) → isShort t ≡ a → isLong text ≡ b
+        → loadOf text t
+        ≡ pick a (record { verdict = Refused 1 0; tables = t })
+        (pick b (record { verdict = Refused 2 0; tables = t }) (record { verdict = verdictOf (judged text); tables = laidOver (leftBy (judged text)) t }))
+    unfolding loadOf
+    loaded-by a b e f = rw (e, f)
+
+    abbrev Left : Loaded → Type 0
+    Left l = Leaves text t (l .verdict) (l .tables)
+
+    -- WHAT LOADING LEAVES in the tables goes by its verdict.
+    pub leaves : Leaves text t (loadOf text t .verdict) (loadOf text t .tables)
+    unfolding Leaves
+    leaves = go (isShort t) refl (isLong text) refl
+      where
+        go : (a : Bool) → isShort t ≡ a → (b : Bool) → isLong text ≡ b → Leaves text t (loadOf text t .verdict) (loadOf text t .tables)
+        go true e b f = subst Left (sym (loaded-by true b e f)) (inl (omega arith, refl))
+        go false e true f = subst Left (sym (loaded-by false true e f)) (inl (omega arith, refl))
+        go false e false f = subst Left (sym (loaded-by false false e f)) (judged-leaves (verdictOf (judged text)) refl verdict-right)

@@ -14,6 +14,7 @@ pub mod ReadGrowing
 pub mod Accepted
 -- The answer of loading, exactly.
 pub mod FirstLaws
+pub mod Numbers
 pub mod Breaking
 pub mod Tallied
 pub mod Exactly

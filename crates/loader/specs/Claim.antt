@@ -1,6 +1,6 @@
 -- What loading a text into lent tables answers, in the words of document 01: the published grammar, the sizes, and the rules declaration by declaration.
 -- `proofs/Exactly.antt` shows that `loadOf` answers this and nothing else.
-use Prim.Native.Nat.{ℕ, _+_, _<_}
+use Prim.Native.Nat.{ℕ, _+_, _≤_, _<_}
 use mathlib.Core.Path.{_≡_}
 use mathlib.Core.Logic.{_⊎_}
 use mathlib.Core.Bool.{Bool, true, false, _&&_}
@@ -19,7 +19,7 @@ use Rattle.rules.specs.State.{State}
 use Rattle.loader.specs.declared.whole.Verdict.{Verdict}
 use Rattle.loader.specs.declared.whole.Verdict.the-variants.{Accepted, Refused}
 use Rattle.loader.specs.Judge.{judge}
-use Rattle.loader.specs.Load.{beginning, isShort, isLong}
+use Rattle.loader.specs.Load.{beginning, laidOver, isShort, isLong}
 
 -- ── what a text declares ──
 
@@ -70,14 +70,15 @@ brokenBy text before d = judge text (standing text before) d .fault
 unfoldable pub AllKeep : List ℕ → List Declaration → Type 0
 AllKeep text ds = (before after : List Declaration) (d : Declaration) → ds ≡ before ++ d ∷ after → brokenBy text before d .number ≡ 0
 
--- the first declaration that breaks a rule, and where
+-- the first declaration that breaks a rule of 6 to 15, and where
 pub record FirstBroken (text : List ℕ) (ds : List Declaration) (number place : ℕ) : Type 0 where
   pub before : List Declaration
   pub it : Declaration
   pub after : List Declaration
   pub splits : ds ≡ before ++ it ∷ after
   pub before-keep : AllKeep text before
-  pub breaks : number ≡ 0 → ⊥
+  pub least : 6 ≤ number
+  pub most : number ≤ 15
   pub number-is : number ≡ brokenBy text before it .number
   pub place-is : place ≡ brokenBy text before it .place
 
@@ -109,6 +110,12 @@ pub record Accepts (text : List ℕ) (parameters registers variables : ℕ) : Ty
   pub registers-are : registers ≡ tally oneRegister (declared text)
   pub variables-are : variables ≡ tally oneVariable (declared text)
 
+-- 3 to 5: reading stops, or passes a size
+pub record Unread (text : List ℕ) (number place : ℕ) : Type 0 where
+  pub least : 3 ≤ number
+  pub most : number ≤ 5
+  pub stops : Right text (Stopped number place)
+
 -- 6 to 15: the first declaration that breaks a rule names it
 abbrev pub Breaks : List ℕ → ℕ → ℕ → Type 0
 Breaks text number place = Reads text × FirstBroken text (declared text) number place
@@ -123,10 +130,16 @@ pub record Misses (text : List ℕ) (number place : ℕ) : Type 0 where
 -- 3 to 16
 unfoldable pub RightRead : List ℕ → Verdict → Type 0
 RightRead text (Accepted p r v) = Accepts text p r v
-RightRead text (Refused number place) = Right text (Stopped number place) ⊎ (Breaks text number place ⊎ Misses text number place)
+RightRead text (Refused number place) = Unread text number place ⊎ (Breaks text number place ⊎ Misses text number place)
 
 -- THE CLAIM. 1 and 2 come first, by their tests.
 unfoldable pub RightVerdict : List ℕ → Tables → Verdict → Type 0
 RightVerdict text t v =
     ((isShort t ≡ true) × (v ≡ Refused 1 0))
     ⊎ (((isShort t ≡ false) × (isLong text ≡ true) × (v ≡ Refused 2 0)) ⊎ ((isShort t ≡ false) × (isLong text ≡ false) × RightRead text v))
+
+-- WHAT IS LEFT. 1 and 2 touch nothing; 3 to 16 leave zeros over the stated sizes; accepting leaves what stands after all declarations (specs/Describes.antt
+-- says what that is). What lies past the stated sizes stays.
+unfoldable pub Leaves : List ℕ → Tables → Verdict → Tables → Type 0
+Leaves text t (Accepted p r v) left = left ≡ laidOver (standing text (declared text)) t
+Leaves text t (Refused number place) left = ((number ≤ 2) × (left ≡ t)) ⊎ ((3 ≤ number) × (left ≡ laidOver beginning t))
