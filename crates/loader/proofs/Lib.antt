@@ -23,3 +23,5 @@ pub mod MoreLaws
 pub mod Entries
 pub mod GrowsLaws
 pub mod Describing
+-- The lowest number first.
+pub mod Lowest

@@ -5,3 +5,4 @@ pub mod Load
 -- What loading comes to, in the words of document 01, and what the tables then hold.
 pub mod Claim
 pub mod Describes
+pub mod Order
