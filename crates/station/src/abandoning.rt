@@ -24,14 +24,9 @@ pub fn abandon(
         (lent (now (held .entry)) (now (marks .entry)) operation))
         (now (held .entry)) (now (marks .exit)) r ⌝ }
 {
-    let number = fault(
-        parameters,
-        registers,
-        variables,
-        held.len(),
-        marks.len(),
-        operation,
-    );
+    let bytes = held.len();
+    let flags = marks.len();
+    let number = fault(parameters, registers, variables, bytes, flags, operation);
     if number != 0 {
         return refuse(operation, number);
     }

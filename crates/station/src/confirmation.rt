@@ -1,9 +1,10 @@
 // A confirmation: it offers the next access, or says done at the last.
 ghost use mathlib.Core.Path.{_≡_};
-ghost use Prim.Native.Nat.{_≤_, _<_, _^_};
+ghost use Prim.Native.Nat.{_+_, _≤_, _<_, _^_};
 ghost use lib.ListN.{length};
 ghost use Rattle.tables.specs.Words.{wordAt};
 ghost use Rattle.station.specs.Variable.{widthOf, accessCount, Ready};
+ghost use Rattle.station.specs.Access.{gatherByte};
 ghost use Rattle.station.specs.Standing.{tablesOf};
 ghost use Rattle.station.specs.Station.{Leaves, nextRead, nextWrite, heldAfter};
 ghost use Rattle.tables.specs.View.{sound};
@@ -86,6 +87,50 @@ fn record_byte(
     held[r] = byte;
 }
 
+// An access of the read in hand is confirmed, and brought this byte.
+fn confirm_read(
+    registers: &[u32],
+    variables: &[u32],
+    v: usize,
+    step: usize,
+    gathered: usize,
+    byte: u8,
+) -> Outcome
+    requires { ⌜ Ready (now registers) (now variables) v 0 ⌝ }
+    requires { ⌜ step < accessCount (now variables) v 0 ⌝ }
+    ensures { λ r. ⌜ r ≡ nextRead (now (registers .entry)) (now (variables .entry)) v (step + 1) (gatherByte (now (variables .entry)) v step gathered byte) ⌝ }
+{
+    let next = step + 1;
+    let value = gather_byte(variables, v, step, gathered, byte);
+    next_read(registers, variables, v, next, value)
+}
+
+// An access of the write in hand is confirmed: only now does the record take its byte.
+fn confirm_write(
+    registers: &[u32],
+    variables: &[u32],
+    held: &mut [u8],
+    marks: &mut [u8],
+    v: usize,
+    step: usize,
+    value: usize,
+) -> Outcome
+    requires { ⌜ Ready (now registers) (now variables) v 1 ⌝ }
+    requires { ⌜ step < accessCount (now variables) v 1 ⌝ }
+    requires { ⌜ wordAt (now registers) 0 ≤ length (now held) ⌝ }
+    requires { ⌜ v < length (now marks) ⌝ }
+    requires { ⌜ value < 2 ^ widthOf (now variables) v ⌝ }
+    ensures { λ r. ⌜ Leaves
+        (nextWrite (now (registers .entry)) (now (variables .entry))
+        (heldAfter (now (registers .entry)) (now (variables .entry)) (now (held .entry)) v step value)
+        (now (marks .entry)) v (step + 1) value)
+        (now (held .exit)) (now (marks .exit)) r ⌝ }
+{
+    let next = step + 1;
+    record_byte(registers, variables, held, v, step, value);
+    next_write(registers, variables, held, marks, v, next, value)
+}
+
 // The access on offer was performed, and brought this byte: the answer offers the next one, or says done.
 pub fn confirm(
     parameters: &[u32],
@@ -103,14 +148,9 @@ pub fn confirm(
         byte)
         (now (held .exit)) (now (marks .exit)) r ⌝ }
 {
-    let number = fault(
-        parameters,
-        registers,
-        variables,
-        held.len(),
-        marks.len(),
-        operation,
-    );
+    let bytes = held.len();
+    let flags = marks.len();
+    let number = fault(parameters, registers, variables, bytes, flags, operation);
     if number != 0 {
         return refuse(operation, number);
     }
@@ -120,19 +160,11 @@ pub fn confirm(
             variable,
             step,
             gathered,
-        } => {
-            let next = step + 1;
-            let value = gather_byte(variables, variable, step, gathered, byte);
-            next_read(registers, variables, variable, next, value)
-        }
+        } => confirm_read(registers, variables, variable, step, gathered, byte),
         Operation::Writing {
             variable,
             step,
             value,
-        } => {
-            let next = step + 1;
-            record_byte(registers, variables, held, variable, step, value);
-            next_write(registers, variables, held, marks, variable, next, value)
-        }
+        } => confirm_write(registers, variables, held, marks, variable, step, value),
     }
 }

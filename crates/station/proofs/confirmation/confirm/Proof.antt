@@ -1,14 +1,13 @@
 -- `station::confirmation::confirm` meets its contract: once `fault` has found nothing, each arm has what its functions ask from `Clear` and `Underway`; its answer is a law of `confirmedBy`.
 use mathlib.Core.Path.{_∙_, ap}
 use native.Mathlib.Nat.{lt-of-lt-of-le}
-use native.Mathlib.Omega.{arith}
 use denote.Ref.{now}
 use lib.ListN.{length}
 use borrow.Author.Needs.{needs}
 use Rattle.station.specs.Station.{confirmedBy, State, stateOf}
 use Rattle.tables.specs.View.{Tables}
 use Rattle.station.specs.Standing.{tablesOf}
-use Rattle.station.proofs.CallLaws.{guard-refuses, guard-passes, Underway, leaves-as, leaves-refused, reading, writing, writing-fits, gathered-fits, confirm-idle, confirm-read, confirm-write}
+use Rattle.station.proofs.CallLaws.{guard-refuses, guard-passes, Underway, leaves-as, leaves-refused, reading, writing, writing-fits, confirm-idle, confirm-read, confirm-write}
 use Rattle.station.proofs.Laws.{Clear, no-fault}
 use Rattle.station.proofs.Meeting.{meets}
 use Rattle.station.proofs.Bridge.{confirm-is}
@@ -55,34 +54,19 @@ refuse-requires-2 c κs = search needs
 enum-known-operation : tie.Need-enum-known-operation
 enum-known-operation c = search needs
 
-add-next : tie.Need-add-next
-add-next c = omega (arith, on-read (c .before) .step-few)
-
-gather-byte-requires : tie.Need-gather-byte-requires
-gather-byte-requires c κs =
+confirm-read-requires : tie.Need-confirm-read-requires
+confirm-read-requires c κs =
     let on = on-read (c .before) in
-    (on .ready .few, (on .ready .usable, on .ready .narrow))
-
-next-read-requires : tie.Need-next-read-requires
-next-read-requires c κs =
-    let on = on-read (c .before .before) in
-    (on .ready, (omega (arith, on .step-due), rw (c .gather-byte .ensures) (gathered-fits _ _ _ _ _)))
+    (on .ready, on .step-due)
 
 enum-known-operation-2 : tie.Need-enum-known-operation-2
 enum-known-operation-2 c = search needs
 
-add-next-2 : tie.Need-add-next-2
-add-next-2 c = omega (arith, on-write (c .before) .step-few)
-
-record-byte-requires : tie.Need-record-byte-requires
-record-byte-requires c κs =
-    let on = on-write (c .before .before) in
-    (on .ready, (on .step-due, clear (c .before .before .before .before) .held-long))
-
-next-write-requires : tie.Need-next-write-requires
-next-write-requires c κs =
-    let on = on-write (c .before .before .before .before .before .before .before) in
-    (on .ready, (omega (arith, on .step-due), (lt-of-lt-of-le (on .inside) (clear (c .before .before .before .before .before .before .before .before .before) .marks-long), writing-fits _ _ _ _ (clear (c .before .before .before .before .before .before .before .before .before)) _ _ _ (c .before .before .before .before .before .before .before .operation2 .given .1))))
+confirm-write-requires : tie.Need-confirm-write-requires
+confirm-write-requires c κs =
+    let on = on-write (c .before .before .before) in
+    let found = clear (c .before .before .before .before .before) in
+    (on .ready, (on .step-due, (found .held-long, (lt-of-lt-of-le (on .inside) (found .marks-long), writing-fits _ _ _ _ found _ _ _ (c .before .before .before .operation2 .given .1)))))
 
 returns-2 : tie.Need-returns-2
 returns-2 c = meets (confirm-is (tables-at (c .before .before .before .before .before .before .before .before .before .before)) (state-at (c .before .before .before .before .before .before .before .before .before .before)) (c .before .before .before .before .before .before .before .before .before .before .args .byte)) (
@@ -91,10 +75,12 @@ returns-2 c = meets (confirm-is (tables-at (c .before .before .before .before .b
     leaves-as (guard-passes _ _ s (c .before .before .before .before .fault .ensures) _ (c .before .before .before .if1 .left) ∙ ap (confirmedBy t s _) (c .before .enum-told .given .1) ∙ confirm-idle t s _) (leaves-refused s 24 (c .refuse2 .ensures)))
 
 returns-3 : tie.Need-returns-3
-returns-3 c = meets (confirm-is (tables-at (c .before .before .before .before .before .before .before .before .before .before .before .before)) (state-at (c .before .before .before .before .before .before .before .before .before .before .before .before)) (c .before .before .before .before .before .before .before .before .before .before .before .before .args .byte)) (
-    let t = tables-at (c .before .before .before .before .before .before .before .before .before .before .before .before) in
-    let s = state-at (c .before .before .before .before .before .before .before .before .before .before .before .before) in
-    leaves-as (guard-passes _ _ s (c .before .before .before .before .before .before .fault .ensures) _ (c .before .before .before .before .before .if1 .left) ∙ ap (confirmedBy t s _) (c .before .before .before .operation .given .1)) (confirm-read t s _ _ _ _ _ _ (c .before .gather-byte .ensures) (c .next-read .ensures)))
+returns-3 c =
+    let t = tables-at (c .before .before .before .before .before .before .before .before .before .before .before) in
+    let s = state-at (c .before .before .before .before .before .before .before .before .before .before .before) in
+    meets (confirm-is t s (c .before .before .before .before .before .before .before .before .before .before .before .args .byte)) (
+    leaves-as (guard-passes _ _ s (c .before .before .before .before .before .fault .ensures) _ (c .before .before .before .before .if1 .left) ∙ ap (confirmedBy t s _) (c .before .before .operation .given .1))
+    (confirm-read t s _ _ _ _ (c .confirm-read .ensures)))
 
 same-length : tie.Need-same-length
 same-length c = search needs
@@ -103,10 +89,12 @@ same-length-2 : tie.Need-same-length-2
 same-length-2 c = search needs
 
 returns-4 : tie.Need-returns-4
-returns-4 c = meets (confirm-is (tables-at (c .before .before .before .before .before .before .before .before .before .before .before .before .before .before .before .before .before .before .before)) (state-at (c .before .before .before .before .before .before .before .before .before .before .before .before .before .before .before .before .before .before .before)) (c .before .before .before .before .before .before .before .before .before .before .before .before .before .before .before .before .before .before .before .args .byte)) (
-    let t = tables-at (c .before .before .before .before .before .before .before .before .before .before .before .before .before .before .before .before .before .before .before) in
-    let s = state-at (c .before .before .before .before .before .before .before .before .before .before .before .before .before .before .before .before .before .before .before) in
-    leaves-as (guard-passes _ _ s (c .before .before .before .before .before .before .before .before .before .before .before .before .before .fault .ensures) _ (c .before .before .before .before .before .before .before .before .before .before .before .before .if1 .left) ∙ ap (confirmedBy t s _) (c .before .before .before .before .before .before .before .before .before .before .operation2 .given .1) ∙ confirm-write t s _ _ _ _ _ (c .before .before .before .before .before .before .before .record-byte .ensures)) (c .before .before .next-write .ensures))
+returns-4 c =
+    let t = tables-at (c .before .before .before .before .before .before .before .before .before .before .before .before .before .before .before .before .before) in
+    let s = state-at (c .before .before .before .before .before .before .before .before .before .before .before .before .before .before .before .before .before) in
+    meets (confirm-is t s (c .before .before .before .before .before .before .before .before .before .before .before .before .before .before .before .before .before .args .byte)) (
+    leaves-as (guard-passes _ _ s (c .before .before .before .before .before .before .before .before .before .before .before .fault .ensures) _ (c .before .before .before .before .before .before .before .before .before .before .if1 .left) ∙ ap (confirmedBy t s _) (c .before .before .before .before .before .before .before .before .operation2 .given .1) ∙ confirm-write t s _ _ _ _)
+    (c .before .before .before .before .confirm-write .ensures))
 
 pub confirm-spec : {M : Type 1} → statement M
 confirm-spec =
@@ -118,13 +106,9 @@ confirm-spec =
     enum-told
     refuse-requires-2
     enum-known-operation
-    add-next
-    gather-byte-requires
-    next-read-requires
+    confirm-read-requires
     enum-known-operation-2
-    add-next-2
-    record-byte-requires
-    next-write-requires
+    confirm-write-requires
     returns-2
     returns-3
     same-length
