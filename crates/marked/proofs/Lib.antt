@@ -4,3 +4,4 @@ pub mod Rows
 pub mod Strides
 pub mod Many
 pub mod Cases
+pub mod Mouse

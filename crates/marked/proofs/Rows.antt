@@ -39,7 +39,7 @@ answers-if c t true ok =
     answers-passed t (ok refl) (c .calls) (opened sound t (c .power) lent) ∙ ap (answersTo passed t (c .calls)) (opened-passed t (ok refl) (c .power) lent)
 answers-if c t false ok = refl
 
-one-computed : (c : Case) → outcomeOf c ≡ computed c
+pub one-computed : (c : Case) → outcomeOf c ≡ computed c
 one-computed c =
     let l : Loaded = loadOf (c .text) blank in
     ap {B = Verdict × List Answer} (λ (a : List Answer). (l .verdict, a)) (answers-if c (l .tables) (isAccepted (l .verdict)) (accepted-sound (c .text) blank))

@@ -1,1 +1,3 @@
+-- The marked cases, and one case besides.
 pub mod Marked
+pub mod BusMouse
