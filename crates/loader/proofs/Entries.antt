@@ -4,9 +4,9 @@ use Prim.Native.Nat.{ℕ, _+_, _≤_}
 use native.Mathlib.Omega.{arith}
 use mathlib.Core.Path.{_≡_, refl, sym, _∙_}
 use mathlib.Core.Bool.{Bool, true, false}
-use mathlib.Core.List.{List, _++_}
+use mathlib.Core.List.{List}
 use lib.Dec.{eqb}
-use lib.ListN.{length, length-append}
+use lib.ListN.{length}
 use borrow.Author.Tests.{eqb-false}
 use Rattle.syntax.specs.declared.register.Register.{Register}
 use Rattle.syntax.specs.Parameter.{ParameterRead}
@@ -16,10 +16,9 @@ use Rattle.tables.specs.Tables.{countOf}
 use Rattle.rules.specs.Fault.{isFault}
 use Rattle.rules.specs.State.{State, unlessStopped, stopped, withParameters, withRegisters}
 use Rattle.rules.specs.Names.{declaredBefore}
-use Rattle.rules.specs.Words.{appended}
 use Rattle.rules.specs.Parameter.{parameterEntry, addedParameter, judgeParameter}
 use Rattle.rules.specs.Register.{registerEntry, registerWritten, addedRegister, judgeRegister}
-use Rattle.rules.specs.Variable.{headWords, firstPieces, secondPieces, listOf, earlyFault, variablesWith, judgeVariable}
+use Rattle.rules.specs.Variable.{firstPieces, secondPieces, listOf, earlyFault, variablesWith, judgeVariable}
 use Rattle.rules.proofs.FaultLaws.{no-number, has-number}
 use Rattle.rules.proofs.AppendLaws.{length-appended, appended-word, appended-added}
 use Rattle.rules.proofs.ParameterShape as P
@@ -27,8 +26,8 @@ use Rattle.rules.proofs.RegisterShape as R
 use Rattle.loader.specs.Judge.{judge}
 use Rattle.loader.specs.Describes.{Holds, variablePartEntry, variableEntry}
 use Rattle.loader.proofs.PieceCounts.{WellRead}
-use Rattle.loader.proofs.ShapeLaws.{entry-appended}
-use Rattle.loader.proofs.VariableReady.{reads-shaped, writes-shaped}
+use Rattle.loader.proofs.ShapeLaws.{entry-word}
+use Rattle.loader.proofs.VariableReady.{reads-shaped, writes-shaped, variable-length, variable-adds}
 use Rattle.loader.proofs.MoreLaws.{More, more-none, more-one}
 
 -- tables of their stated sizes, with room for what is declared
@@ -130,38 +129,18 @@ module _ (text : List ℕ) (s : State) where
         go false e false f = absurd (eqb-false (earlyFault text s d .number) 0 f (sym (rw (e, f)) ∙ kept))
         go false e true f = (rw (e, f), rw (e, f), rw (e, f))
 
-    reads-long : length (variablePartEntry text s d (d .variable .rest .behaviours .read) 0) ≡ 27
-    unfolding variablePartEntry
-    reads-long = reads-shaped text s d w .1
-
-    writes-long : length (variablePartEntry text s d (d .variable .rest .behaviours .write) 1) ≡ 27
-    unfolding variablePartEntry
-    writes-long = writes-shaped text s d w .1
-
-    variable-long : length (variableEntry text s d) ≡ 59
-    unfolding variableEntry headWords
-    variable-long =
-        length-append (headWords (d .variable) ++ variablePartEntry text s d (d .variable .rest .behaviours .read) 0) (variablePartEntry text s d (d .variable .rest .behaviours .write) 1)
-        ∙ omega (arith, reads-long, writes-long)
-
-    appended-is : variablesWith text s d ≡ appended 59 vs (variableEntry text s d)
-    unfolding variableEntry variablePartEntry
-    appended-is = entry-appended vs (d .variable) (firstPieces text s d) (secondPieces text s d) (listOf text s d 0) (listOf text s d 1) (reads-shaped text s d w .1)
-
     pub variable-grows : Grows 0 0 1 s (judge text s (aVariable d))
     variable-grows =
         let j = variable-judged in
         record {
           parameters = rw (j .0) (more-none 36 (s .parameters));
           registers = rw (j .1) (more-none 15 (s .registers));
-          variables =
-              rw (j .2, appended-is)
-              (more-one 59 vs _ (appended-added 59 vs (variableEntry text s d) (omega (arith, room .variables-long)) (omega (arith, room .variables-room)) (omega (arith, variable-long)))
-              (length-appended 59 vs (variableEntry text s d)));
+          variables = rw (j .2) (more-one 59 vs _ (variable-adds text s d w (omega (arith, room .variables-long)) (omega (arith, room .variables-room))) (variable-length text s d w));
         }
 
     pub variable-held : Holds 59 (judge text s (aVariable d) .variables) (countOf vs) (variableEntry text s d)
-    unfolding Holds
+    unfolding Holds variableEntry variablePartEntry
     variable-held k l =
-        rw (variable-judged .2, appended-is)
-        (appended-word 59 vs (variableEntry text s d) (omega (arith, variable-long, room .variables-long, room .variables-room)) k (omega (arith, variable-long)))
+        rw (variable-judged .2)
+        (entry-word vs (d .variable) (firstPieces text s d) (secondPieces text s d) (listOf text s d 0) (listOf text s d 1) (reads-shaped text s d w .1) (writes-shaped text s d w .1)
+        (omega (arith, room .variables-long, room .variables-room)) k l)

@@ -15,11 +15,10 @@ use Rattle.tables.specs.Rules.{variableFault, variableShape}
 use Rattle.tables.specs.Sound.{variableGood}
 use Rattle.tables.proofs.Growth.{Added, variable-added}
 use Rattle.rules.specs.State.{State}
-use Rattle.rules.specs.Variable.{badBehaviours, lowest, firstPieces, secondPieces, listOf, earlyFault, variablesWith, lateNumber, judgeVariable}
-use Rattle.rules.proofs.VariableLaws.{before-entry, late-none}
+use Rattle.rules.specs.Variable.{badBehaviours, lowest, listOf, earlyFault, variablesWith, lateNumber, judgeVariable}
+use Rattle.rules.proofs.VariableLaws.{late-none}
 use Rattle.loader.proofs.PieceCounts.{WellRead}
-use Rattle.loader.proofs.ShapeLaws.{entry-length, entry-count, entry-after}
-use Rattle.loader.proofs.VariableReady.{early-eleven, reads-shaped, writes-shaped, entry-shaped}
+use Rattle.loader.proofs.VariableReady.{early-eleven, variable-length, variable-adds, entry-shaped}
 use Rattle.rules.proofs.Growing.{Growing}
 
 -- the lower of two numbers of rules is none: so is the first
@@ -55,14 +54,7 @@ module _ (text : List ℕ) {p r v : ℕ} (s : State) (d : VariableRead) (g : Gro
   kept h = lowest-none _ (cond (badBehaviours (d .variable .rest .behaviours) (listOf text s d 0) (listOf text s d 1)) 13 0) h
 
   added : Added 59 vs more
-  added =
-      let f = firstPieces text s d in
-      let t = secondPieces text s d in
-      record {
-        count = entry-count vs (d .variable) f t (listOf text s d 0) (listOf text s d 1) (omega (arith, g .variables-long)) (omega (arith, g .variables-counted));
-        before = before-entry vs (d .variable) f t (listOf text s d 0) (listOf text s d 1);
-        after = entry-after vs (d .variable) f t (listOf text s d 0) (listOf text s d 1) (reads-shaped text s d w .1) (writes-shaped text s d w .1);
-      }
+  added = variable-adds text s d w (omega (arith, g .variables-long)) (omega (arith, g .variables-counted))
 
   pub grow-variable : judgeVariable text s d .fault .number ≡ 0 → Growing p r (v + 1) (judgeVariable text s d)
   unfolding judgeVariable
@@ -78,7 +70,7 @@ module _ (text : List ℕ) {p r v : ℕ} (s : State) (d : VariableRead) (g : Gro
             so-far = variable-added (s .parameters) (s .registers) (g .so-far) added (variable-good (s .registers) more (countOf vs) shape (kept late));
             parameters-long = g .parameters-long;
             registers-long = g .registers-long;
-            variables-long = omega (arith, g .variables-long, entry-length vs (d .variable) (firstPieces text s d) (secondPieces text s d) (listOf text s d 0) (listOf text s d 1));
+            variables-long = omega (arith, g .variables-long, variable-length text s d w);
             parameters-counted = g .parameters-counted;
             registers-counted = g .registers-counted;
             variables-counted = added .count ∙ ap (λ (n : ℕ). n + 1) (g .variables-counted);

@@ -7,8 +7,8 @@ use mathlib.Core.Path.{_≡_, refl, sym, ap, _∙_, subst}
 use mathlib.Core.Bool.{Bool, true, false, _&&_, _||_, cond, false≢true}
 use mathlib.Core.List.{List, _∷_, _++_}
 use lib.Dec.{eqb, leb}
-use lib.ListN.{length, getD, replicate, length-set, getD-replicate, List·getD-eq-default}
-use lib.Seq.{getD-set-other, getD-set-same}
+use lib.ListN.{length, getD, replicate, length-append, getD-replicate, List·getD-append, List·getD-eq-default}
+use lib.Seq.{getD-append-add}
 use borrow.Author.Tests.{le-leb, leb-true, leb-false}
 use Rattle.syntax.specs.declared.variable.Variable.{Variable}
 use Rattle.tables.specs.Every.{zerosFront, zeros}
@@ -17,12 +17,13 @@ use Rattle.tables.specs.Rules.{variablePartShape, variableShape}
 use Rattle.tables.proofs.Laws.{every-same}
 use Rattle.tables.proofs.ZeroLaws.{zeros-every, zeros-are}
 use Rattle.tables.proofs.SameLaws.{and-same}
+use Rattle.tables.proofs.Growth.{Added}
 use Rattle.rules.specs.Words.{wordOf, written, appended}
 use Rattle.rules.specs.Lists.{pieceWords, piecesOn, piecesOf, partWords}
 use Rattle.rules.specs.Variable.{flagOf, triggers, headWords, withVariable}
-use Rattle.rules.proofs.FrameLaws.{written-below}
+use Rattle.rules.proofs.AppendLaws.{length-appended, appended-word, appended-added}
 use Rattle.rules.proofs.WordLaws.{appended-three}
-use Rattle.rules.proofs.WrittenLaws.{length-written, written-at, written-above}
+use Rattle.rules.proofs.WrittenLaws.{length-written, written-above}
 
 -- ---- the pieces of a list: 24 words, zero behind the last piece
 module _ (text rs list : List ℕ) where
@@ -116,7 +117,7 @@ or-true : (b : Bool) → (b || true) ≡ true
 or-true true = refl
 or-true false = refl
 
--- ---- the entry, word by word
+-- ---- the entry, written in one run
 module _ (vs : List ℕ) (d : Variable) (first second : List ℕ) (read write : ℕ) where
   abbrev at : ℕ
   at = countOf vs
@@ -127,102 +128,88 @@ module _ (vs : List ℕ) (d : Variable) (first second : List ℕ) (read write : 
   abbrev writes : List ℕ
   writes = partWords d first second (triggers (d .rest .behaviours) (d .rest .behaviours .write)) write
 
-  abbrev headed : List ℕ
-  headed = written vs (variableAt at) (headWords d)
-
-  abbrev half : List ℕ
-  half = written headed (variablePart at 0) reads
-
-  abbrev whole : List ℕ
-  whole = written half (variablePart at 1) writes
+  abbrev words : List ℕ
+  words = headWords d ++ reads ++ writes
 
   abbrev entered : List ℕ
   entered = withVariable vs d first second read write
 
-  -- written in one run
-  pub entry-appended : length reads ≡ 27 → entered ≡ appended 59 vs (headWords d ++ reads ++ writes)
-  unfolding withVariable headWords
-  entry-appended r =
-      let p : variablePart at 0 ≡ 59 * at + 1 + 5 = omega arith in
-      let q : variablePart at 1 ≡ 59 * at + 1 + 32 = omega arith in
-      appended-three 59 vs (headWords d) reads writes refl (omega (arith, r)) refl refl (ap (λ (n : ℕ). written headed n reads) p)
-      (ap (λ (n : ℕ). written half n writes) q) refl
+  module _ (r : length reads ≡ 27) (w : length writes ≡ 27) where
+    front-long : length (headWords d ++ reads) ≡ 32
+    unfolding headWords
+    front-long = omega (arith, r)
 
-  headed-length : length headed ≡ length vs
-  headed-length = length-written vs (variableAt at) (headWords d)
+    words-long : length words ≡ 59
+    words-long = length-append (headWords d ++ reads) writes ∙ omega (arith, front-long, w)
 
-  half-length : length half ≡ length vs
-  half-length = length-written headed (variablePart at 0) reads ∙ headed-length
-
-  pub entry-length : length entered ≡ length vs
-  unfolding withVariable
-  entry-length = length-set whole 0 (wordOf (at + 1)) ∙ length-written half (variablePart at 1) writes ∙ half-length
-
-  pub entry-count : 0 < length vs → at < 4294967295 → countOf entered ≡ at + 1
-  unfolding withVariable wordOf
-  entry-count l h =
-      getD-set-same whole 0 (wordOf (at + 1)) 0 (subst (λ (n : ℕ). 0 < n) (sym (length-written half (variablePart at 1) writes ∙ half-length)) l)
-      ∙ min-eq-left (omega arith)
-
-  pub entry-after : length reads ≡ 27 → length writes ≡ 27 → (k : ℕ) → variableAt at + 59 ≤ k → getD entered k 0 ≡ getD vs k 0
-  unfolding withVariable headWords
-  entry-after r w k l =
-      getD-set-other whole 0 k (wordOf (at + 1)) 0 (λ e. omega arith)
-      ∙ written-above half (variablePart at 1) writes k (omega arith)
-      ∙ written-above headed (variablePart at 0) reads k (omega arith)
-      ∙ written-above vs (variableAt at) (headWords d) k (omega arith)
-
-  module _ (fits : variableAt at + 59 ≤ length vs) (r : length reads ≡ 27) (w : length writes ≡ 27) where
-    head-word : (k : ℕ) → k < 5 → getD entered (variableAt at + k) 0 ≡ getD (headWords d) k 0
+    is-appended : entered ≡ appended 59 vs words
     unfolding withVariable headWords
-    head-word k l =
-        getD-set-other whole 0 (variableAt at + k) (wordOf (at + 1)) 0 (λ e. omega arith)
-        ∙ written-below half (variablePart at 1) writes (variableAt at + k) (omega arith)
-        ∙ written-below headed (variablePart at 0) reads (variableAt at + k) (omega arith)
-        ∙ written-at vs (variableAt at) (headWords d) k (omega arith) l
+    is-appended =
+        let headed = written vs (variableAt at) (headWords d) in
+        let half = written headed (variablePart at 0) reads in
+        let p : variablePart at 0 ≡ 59 * at + 1 + 5 = omega arith in
+        let q : variablePart at 1 ≡ 59 * at + 1 + 32 = omega arith in
+        appended-three 59 vs (headWords d) reads writes refl (sym front-long) refl refl (ap (λ (n : ℕ). written headed n reads) p)
+        (ap (λ (n : ℕ). written half n writes) q) refl
 
-    read-word : (k : ℕ) → k < 27 → getD entered (variablePart at 0 + k) 0 ≡ getD reads k 0
-    unfolding withVariable
-    read-word k l =
-        getD-set-other whole 0 (variablePart at 0 + k) (wordOf (at + 1)) 0 (λ e. omega arith)
-        ∙ written-below half (variablePart at 1) writes (variablePart at 0 + k) (omega arith)
-        ∙ written-at headed (variablePart at 0) reads k (omega (arith, headed-length)) (omega arith)
+    pub entry-length : length entered ≡ length vs
+    entry-length = ap length is-appended ∙ length-appended 59 vs words
 
-    write-word : (k : ℕ) → k < 27 → getD entered (variablePart at 1 + k) 0 ≡ getD writes k 0
-    unfolding withVariable
-    write-word k l =
-        getD-set-other whole 0 (variablePart at 1 + k) (wordOf (at + 1)) 0 (λ e. omega arith)
-        ∙ written-at half (variablePart at 1) writes k (omega (arith, half-length)) (omega arith)
+    pub entry-added : 0 < length vs → at < 4294967295 → Added 59 vs entered
+    entry-added l h = subst (Added 59 vs) (sym is-appended) (appended-added 59 vs words l h (omega (arith, words-long)))
 
-    present-read : present entered (variablePart at 0) ≡ eqb (getD reads 0 0) 1
-    present-read = let e : variablePart at 0 ≡ variablePart at 0 + 0 = omega arith in
-        ap (λ (i : ℕ). present entered i) e ∙ ap (λ (n : ℕ). eqb n 1) (read-word 0 (omega arith))
+    module _ (fits : variableAt at + 59 ≤ length vs) where
+      pub entry-word : (k : ℕ) → k < 59 → getD entered (variableAt at + k) 0 ≡ getD words k 0
+      entry-word k l =
+          ap (λ (t : List ℕ). getD t (variableAt at + k) 0) is-appended ∙ appended-word 59 vs words (omega (arith, words-long)) k (omega (arith, words-long))
 
-    present-write : present entered (variablePart at 1) ≡ eqb (getD writes 0 0) 1
-    present-write = let e : variablePart at 1 ≡ variablePart at 1 + 0 = omega arith in
-        ap (λ (i : ℕ). present entered i) e ∙ ap (λ (n : ℕ). eqb n 1) (write-word 0 (omega arith))
+      front-word : (k : ℕ) → k < 32 → getD entered (variableAt at + k) 0 ≡ getD (headWords d ++ reads) k 0
+      front-word k l = entry-word k (omega arith) ∙ List·getD-append (headWords d ++ reads) writes 0 k (omega (arith, front-long))
 
-    either-there : (eqb read 1 || eqb read 2 || (eqb write 1 || eqb write 2)) ≡ true → (present entered (variablePart at 0) || present entered (variablePart at 1)) ≡ true
-    either-there h = go (eqb read 1 || eqb read 2) refl h
-      where
-        go : (b : Bool) → (eqb read 1 || eqb read 2) ≡ b → (b || (eqb write 1 || eqb write 2)) ≡ true
-            → (present entered (variablePart at 0) || present entered (variablePart at 1)) ≡ true
-        go true e h = rw (present-read, part-there d first second _ read e)
-        go false e h = rw (present-write, part-there d first second _ write h) (or-true (present entered (variablePart at 0)))
+      head-word : (k : ℕ) → k < 5 → getD entered (variableAt at + k) 0 ≡ getD (headWords d) k 0
+      unfolding headWords
+      head-word k l = front-word k (omega arith) ∙ List·getD-append (headWords d) reads 0 k l
 
-    -- the shape of the whole entry
-    pub entry-shape : leb (d .kind) 2 ≡ true → variablePartShape reads 0 ≡ true → variablePartShape writes 0 ≡ true
-        → (eqb read 1 || eqb read 2 || (eqb write 1 || eqb write 2)) ≡ true → variableShape entered at ≡ true
-    unfolding variableShape headWords
-    entry-shape k p q e =
-        rw (
-          head-word 2 (omega arith),
-          head-word 4 (omega arith),
-          k,
-          flag-small (leb 1 (d .rest .behaviours .volatile)),
-          shape-shift entered reads (variablePart at 0) read-word,
-          p,
-          shape-shift entered writes (variablePart at 1) write-word,
-          q,
-          either-there e,
-        )
+      read-word : (k : ℕ) → k < 27 → getD entered (variablePart at 0 + k) 0 ≡ getD reads k 0
+      unfolding headWords
+      read-word k l =
+          let e : variablePart at 0 + k ≡ variableAt at + suc (suc (suc (suc (suc k)))) = omega arith in
+          ap (λ (i : ℕ). getD entered i 0) e ∙ front-word (suc (suc (suc (suc (suc k))))) (omega arith)
+
+      write-word : (k : ℕ) → k < 27 → getD entered (variablePart at 1 + k) 0 ≡ getD writes k 0
+      write-word k l =
+          let e : variablePart at 1 + k ≡ variableAt at + (length (headWords d ++ reads) + k) = omega (arith, front-long) in
+          ap (λ (i : ℕ). getD entered i 0) e ∙ entry-word (length (headWords d ++ reads) + k) (omega (arith, front-long)) ∙ getD-append-add (headWords d ++ reads) writes k 0
+
+      present-read : present entered (variablePart at 0) ≡ eqb (getD reads 0 0) 1
+      present-read = let e : variablePart at 0 ≡ variablePart at 0 + 0 = omega arith in
+          ap (λ (i : ℕ). present entered i) e ∙ ap (λ (n : ℕ). eqb n 1) (read-word 0 (omega arith))
+
+      present-write : present entered (variablePart at 1) ≡ eqb (getD writes 0 0) 1
+      present-write = let e : variablePart at 1 ≡ variablePart at 1 + 0 = omega arith in
+          ap (λ (i : ℕ). present entered i) e ∙ ap (λ (n : ℕ). eqb n 1) (write-word 0 (omega arith))
+
+      either-there : (eqb read 1 || eqb read 2 || (eqb write 1 || eqb write 2)) ≡ true → (present entered (variablePart at 0) || present entered (variablePart at 1)) ≡ true
+      either-there h = go (eqb read 1 || eqb read 2) refl h
+        where
+          go : (b : Bool) → (eqb read 1 || eqb read 2) ≡ b → (b || (eqb write 1 || eqb write 2)) ≡ true
+              → (present entered (variablePart at 0) || present entered (variablePart at 1)) ≡ true
+          go true e h = rw (present-read, part-there d first second _ read e)
+          go false e h = rw (present-write, part-there d first second _ write h) (or-true (present entered (variablePart at 0)))
+
+      -- the shape of the whole entry
+      pub entry-shape : leb (d .kind) 2 ≡ true → variablePartShape reads 0 ≡ true → variablePartShape writes 0 ≡ true
+          → (eqb read 1 || eqb read 2 || (eqb write 1 || eqb write 2)) ≡ true → variableShape entered at ≡ true
+      unfolding variableShape headWords
+      entry-shape k p q e =
+          rw (
+            head-word 2 (omega arith),
+            head-word 4 (omega arith),
+            k,
+            flag-small (leb 1 (d .rest .behaviours .volatile)),
+            shape-shift entered reads (variablePart at 0) read-word,
+            p,
+            shape-shift entered writes (variablePart at 1) write-word,
+            q,
+            either-there e,
+          )

@@ -25,8 +25,8 @@ use Rattle.rules.specs.Variable.{triggers, firstPieces, secondPieces, listOf, e
 use Rattle.loader.specs.Judge.{judge}
 use Rattle.loader.specs.Ready.{Ready}
 use Rattle.loader.proofs.PieceCounts.{WellRead}
-use Rattle.loader.proofs.ShapeLaws.{Listed, pieces-length, pieces-blank, part-shape, entry-length, entry-count, entry-shape, flag-small}
-use Rattle.rules.proofs.VariableLaws.{before-entry}
+use Rattle.loader.proofs.ShapeLaws.{Listed, pieces-length, pieces-blank, part-shape, entry-length, entry-added, entry-shape, flag-small}
+use Rattle.tables.proofs.Growth.{Added}
 use Rattle.rules.proofs.FaultLaws.{no-number, has-number}
 
 -- the list that gives a part is one of the two, or none
@@ -137,13 +137,20 @@ module _ (text : List ℕ) (s : State) (it : VariableRead) where
         part-shape (it .variable) (firstPieces text s it) (secondPieces text s it) _ (listOf text s it 1)
         (flag-small (leb 1 (it .variable .rest .behaviours .bare + it .variable .rest .behaviours .write))) first-listed (second-listed 1)
 
+    -- the entry is written behind those that are there
+    pub variable-length : length (variablesWith text s it) ≡ length (s .variables)
+    variable-length = entry-length (s .variables) (it .variable) (firstPieces text s it) (secondPieces text s it) (listOf text s it 0) (listOf text s it 1) (reads-shaped .1) (writes-shaped .1)
+
+    pub variable-adds : 0 < length (s .variables) → countOf (s .variables) < 4294967295 → Added 59 (s .variables) (variablesWith text s it)
+    variable-adds = entry-added (s .variables) (it .variable) (firstPieces text s it) (secondPieces text s it) (listOf text s it 0) (listOf text s it 1) (reads-shaped .1) (writes-shaped .1)
+
     -- the entry has its shape, and those before it keep theirs
     pub entry-shaped : variableAt (countOf (s .variables)) + 59 ≤ length (s .variables) → (eqb (listOf text s it 0) 0 && eqb (listOf text s it 1) 0) ≡ false
         → variableShape (variablesWith text s it) (countOf (s .variables)) ≡ true
     entry-shaped fits given =
         let d = it .variable in
         let f = firstPieces text s it in
-        entry-shape (s .variables) d f (secondPieces text s it) (listOf text s it 0) (listOf text s it 1) fits (reads-shaped .1) (writes-shaped .1) (w .kind)
+        entry-shape (s .variables) d f (secondPieces text s it) (listOf text s it 0) (listOf text s it 1) (reads-shaped .1) (writes-shaped .1) fits (w .kind)
         (reads-shaped .0) (writes-shaped .0)
         (either-some _ _ (eqb (listOf text s it 0) 1 || eqb (listOf text s it 0) 2) (eqb (listOf text s it 1) 1 || eqb (listOf text s it 1) 2) given
         (list-some (s .registers) d f 0) (list-some (s .registers) d f 1))
@@ -155,11 +162,10 @@ module _ (text : List ℕ) (s : State) (it : VariableRead) where
         let vs = s .variables in
         let n = countOf vs in
         let vs′ = variablesWith text s it in
-        let same = before-entry vs (it .variable) (firstPieces text s it) (secondPieces text s it) (listOf text s it 0) (listOf text s it 1) in
-        let counted : countOf vs′ ≡ n + 1 = entry-count vs (it .variable) (firstPieces text s it) (secondPieces text s it) (listOf text s it 0) (listOf text s it 1) (omega arith) (omega arith) in
+        let added = variable-adds (omega arith) (omega arith) in
         let kept : every n (variableShape vs′) ≡ true =
-        sym (every-same n (variableShape vs) (variableShape vs′) (λ v l. variable-shape-same vs vs′ v (λ i a z. same i a (omega arith)))) ∙ shapes in
-        rw (counted, every-more, kept) (entry-shaped (omega arith) given)
+        sym (every-same n (variableShape vs) (variableShape vs′) (λ v l. variable-shape-same vs vs′ v (λ i a z. added .before i a (omega arith)))) ∙ shapes in
+        rw (added .count, every-more, kept) (entry-shaped (omega arith) given)
 
   -- only the variables change, and if they do, by the entry
   pub only-variables : (after .registers ≡ s .registers) × ((after .variables ≡ s .variables) ⊎ (after .variables ≡ variablesWith text s it))
@@ -183,11 +189,11 @@ ready-variable text p it next {bits′ = bits′} {held′ = held′} {pulled′
     let vs = s .variables in
     let only = only-variables text s it in
     let few : countOf vs ≤ 127 = omega (arith, ready .variables-counted, leb-false 128 (p .variables) room) in
-    let count = entry-count vs (it .variable) (firstPieces text s it) (secondPieces text s it) (listOf text s it 0) (listOf text s it 1) (omega (arith, ready .long)) (omega arith) in
-    let long = entry-length vs (it .variable) (firstPieces text s it) (secondPieces text s it) (listOf text s it 0) (listOf text s it 1) in
+    let added = variable-adds text s it w (omega (arith, ready .long)) (omega arith) in
+    let long = variable-length text s it w in
     let most : countOf (after text s it .variables) ≤ p .variables + 1 =
     ⊎-elim (λ e. let q : countOf (after text s it .variables) ≡ countOf vs = ap countOf e in omega (arith, ready .variables-counted))
-    (λ e. let q : countOf (after text s it .variables) ≡ countOf vs + 1 = ap countOf e ∙ count in omega (arith, ready .variables-counted)) (only .1) in
+    (λ e. let q : countOf (after text s it .variables) ≡ countOf vs + 1 = ap countOf e ∙ added .count in omega (arith, ready .variables-counted)) (only .1) in
     record {
       registers-counted = rw (only .0) (ready .registers-counted);
       registers-few = ready .registers-few;
@@ -199,7 +205,7 @@ ready-variable text p it next {bits′ = bits′} {held′ = held′} {pulled′
           rw (e .table) (shapes-more text s it w (omega (arith, ready .long)) few (ready .shaped (e .before)) (e .given));
       mapped =
           λ z. let e = entered-is text s it z in
-          let c : countOf (after text s it .variables) ≡ countOf vs + 1 = ap countOf (e .table) ∙ count in
+          let c : countOf (after text s it .variables) ≡ countOf vs + 1 = ap countOf (e .table) ∙ added .count in
           rw c (mapped z);
     }
 
