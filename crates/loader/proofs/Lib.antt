@@ -18,6 +18,7 @@ pub mod Numbers
 pub mod Breaking
 pub mod Tallied
 pub mod Exactly
+pub mod ByNumber
 -- What is accepted is described.
 pub mod MoreLaws
 pub mod Entries
