@@ -1,15 +1,15 @@
 -- Lines and words lie inside what they are read from; and two lists compared byte by byte. Assumes nothing.
 use mathlib.Core.Bool.{true, false}
-use mathlib.Core.List.{List}
-use mathlib.Core.Path.{_≡_, _∙_}
-use Prim.Native.Nat.{ℕ, _+_, _-_, _≤_, _<_}
+use mathlib.Core.List.{List, [], _∷_}
+use mathlib.Core.Path.{_≡_, refl, sym, ap, _∙_}
+use Prim.Native.Nat.{ℕ, zero, suc, _+_, _-_, _≤_, _<_}
 use native.Mathlib.Omega.{arith}
 use lib.ListN.{length, getD, drop, take, drop-of-length-le, length-drop, length-take}
 use lib.Seq.{take-all}
 use borrow.Author.Tests.{eq-eqb, ne-eqb}
-use Rattle.token.specs.Bytes.{runAt, same}
+use Rattle.token.specs.Bytes.{runFrom, runAt, same}
 use Rattle.token.proofs.RunSteps.{to-come, run-after, run-within}
-use Rattle.script.specs.Words.{testOf, lineEnd, wordStart, wordEnd, wordOf, restOf}
+use Rattle.script.specs.Words.{testOf, lineEnd, wordStart, wordEnd, wordOf, restOf, ahead, wordsUpTo, wordsOf}
 use Rattle.script.specs.declared.words.Run.the-variants.{Blanks, Word, Line}
 
 pub line-on : (input : List ℕ) (at : ℕ) → at ≤ lineEnd input at
@@ -49,6 +49,41 @@ module _ (line : List ℕ) (start end : ℕ) (from : start ≡ wordStart line) (
   pub rest-is : take (length line - end) (drop end line) ≡ restOf line
   unfolding restOf
   rest-is = all-of line end ∙ rw (to, from)
+
+-- an empty line has no word
+none-of-nothing : (n : ℕ) → wordsUpTo n [] ≡ []
+unfolding wordsUpTo ahead wordOf runFrom
+none-of-nothing zero = refl
+none-of-nothing (suc n) = refl
+
+rest-no-longer : (line : List ℕ) → length (restOf line) ≤ length line
+unfolding restOf
+rest-no-longer line = omega (arith, length-drop (wordEnd line) line)
+
+-- what follows a word is the same where its own words are
+ahead-same :
+    (line : List ℕ) (word : List ℕ) (a b : List (List ℕ)) → wordOf line ≡ word → (length (restOf line) < length line → a ≡ b)
+    → ahead word a ≡ ahead word b
+unfolding ahead
+ahead-same line [] a b e same-words = refl
+ahead-same line (x ∷ s) a b e same-words = ap (λ (more : List (List ℕ)). (x ∷ s) ∷ more) (same-words (rest-shorter line (rw e (omega arith))))
+
+-- any two bounds that are no less than the bytes give the same words
+words-enough : (n m : ℕ) (line : List ℕ) → length line ≤ n → length line ≤ m → wordsUpTo n line ≡ wordsUpTo m line
+unfolding wordsUpTo
+words-enough zero m [] hn hm = sym (none-of-nothing m)
+words-enough zero m (x ∷ s) hn hm = absurd (omega arith)
+words-enough (suc n) zero [] hn hm = none-of-nothing (suc n)
+words-enough (suc n) zero (x ∷ s) hn hm = absurd (omega arith)
+words-enough (suc n) (suc m) line hn hm =
+    ahead-same line (wordOf line) _ _ refl (λ shorter. words-enough n m (restOf line) (omega arith) (omega arith))
+
+-- the words of a line are the first one and those of the rest
+pub words-first : (line : List ℕ) → wordsOf line ≡ ahead (wordOf line) (wordsOf (restOf line))
+unfolding wordsOf wordsUpTo
+words-first line =
+    let less = rest-no-longer line in
+    ap (ahead (wordOf line)) (words-enough (length line) (suc (length (restOf line))) (restOf line) less (omega arith))
 
 -- two lists from place k on
 module _ (a b : List ℕ) (k : ℕ) where

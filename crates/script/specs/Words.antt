@@ -1,10 +1,10 @@
 -- The lines of a script and their words.
 use mathlib.Core.Bool.{Bool, not, _||_}
-use mathlib.Core.List.{List}
-use Prim.Native.Nat.{ℕ, _-_}
+use mathlib.Core.List.{List, [], _∷_}
+use Prim.Native.Nat.{ℕ, zero, suc, _-_}
 use Prim.Native.Char.{code}
 use lib.Dec.{eqb}
-use lib.ListN.{take, drop}
+use lib.ListN.{length, take, drop}
 use Rattle.token.specs.Bytes.{runAt}
 use Rattle.script.specs.declared.words.Run.{Run}
 use Rattle.script.specs.declared.words.Run.the-variants.{Blanks, Word, Line}
@@ -36,3 +36,16 @@ wordOf line = take (wordEnd line - wordStart line) (drop (wordStart line) line)
 
 unfoldable pub restOf : List ℕ → List ℕ
 restOf line = drop (wordEnd line) line
+
+-- a word in front of more; an empty one says that no word is left
+unfoldable pub ahead : List ℕ → List (List ℕ) → List (List ℕ)
+ahead [] more = []
+ahead (x ∷ word) more = (x ∷ word) ∷ more
+
+-- the words of a line, up to a most; it never has more of them than bytes
+unfoldable pub wordsUpTo : ℕ → List ℕ → List (List ℕ)
+wordsUpTo zero line = []
+wordsUpTo (suc most) line = ahead (wordOf line) (wordsUpTo most (restOf line))
+
+unfoldable pub wordsOf : List ℕ → List (List ℕ)
+wordsOf line = wordsUpTo (suc (length line)) line
