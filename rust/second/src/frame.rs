@@ -1,6 +1,8 @@
-//! Framed texts: a line `text N`, then N bytes, then a newline.
+//! Framed texts: a line `text N`, then N bytes, then a newline. The line's words and its number are those of scripts.
 
 use std::fmt;
+
+use crate::replay::{fields, natural};
 
 /// A frame that is none: where it stands in the input.
 #[derive(Clone, Copy, Debug, PartialEq, Eq)]
@@ -18,15 +20,13 @@ impl std::error::Error for BadFrame {}
 /// left out.
 pub fn read(input: &[u8], at: usize) -> Result<(&[u8], usize), BadFrame> {
     let frame = || -> Option<(&[u8], usize)> {
-        let rest = input.get(at..)?.strip_prefix(b"text ")?;
+        let rest = input.get(at..)?;
         let line = rest.iter().position(|b| *b == b'\n')?;
-        let digits = std::str::from_utf8(&rest[..line]).ok()?;
-        if digits.is_empty() || !digits.bytes().all(|b| b.is_ascii_digit()) {
+        let [b"text", length] = fields(&rest[..line]).collect::<Vec<_>>()[..] else {
             return None;
-        }
-        let length: usize = digits.parse().ok()?;
-        let start = at + 5 + line + 1;
-        let end = start.checked_add(length)?;
+        };
+        let start = at + line + 1;
+        let end = start.checked_add(natural(length)?)?;
         let text = input.get(start..end)?;
         match input.get(end) {
             None => Some((text, end)),
@@ -68,6 +68,7 @@ mod tests {
         assert_eq!(read_all(&input).unwrap(), texts);
         assert_eq!(read(&input, 0), Ok((&b""[..], 8)));
         assert_eq!(read_all(&input[..input.len() - 1]).unwrap(), texts);
+        assert_eq!(read(b" text\t0x2 \nab", 0), Ok((&b"ab"[..], 13)));
     }
 
     #[test]
@@ -75,6 +76,8 @@ mod tests {
         for input in [
             "text",
             "text \n",
+            "text 0",
+            "text 1 1\na",
             "text 3\nab",
             "text 1\nab",
             "text -1\n",

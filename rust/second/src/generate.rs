@@ -1,6 +1,7 @@
 //! Generated descriptions, damaged texts, tables and runs of calls. Everything follows from a seed.
 
 mod broken;
+mod lines;
 mod random;
 mod runs;
 mod source;
@@ -9,6 +10,7 @@ mod valid;
 mod written;
 
 pub use broken::{broken, damaged, random_bytes};
+pub use lines::damaged_line;
 pub use random::Random;
 pub use runs::{every_step, run};
 pub use source::{spell, Source, Style};

@@ -2,6 +2,7 @@
 
 use std::fmt;
 
+use crate::frame;
 use crate::load::{load, Verdict};
 use crate::station::{abandon, begin_read, begin_write, confirm, open, Answer, Operation, Tables};
 use crate::tables::{lookup, tables};
@@ -75,48 +76,56 @@ pub fn parse(line: &[u8]) -> Option<Call> {
         [b"open", ref bytes @ ..] => Call::Open(
             bytes
                 .iter()
-                .map(|field| number(field))
+                .map(|field| natural(field))
                 .collect::<Option<_>>()?,
         ),
-        [b"read", variable] => Call::Read(number(variable)?),
-        [b"write", variable, value] => Call::Write(number(variable)?, number(value)?),
-        [b"confirm", byte] => Call::Confirm(number(byte)?),
+        [b"read", variable] => Call::Read(natural(variable)?),
+        [b"write", variable, z] => Call::Write(natural(variable)?, value(z)?),
+        [b"confirm", byte] => Call::Confirm(natural(byte)?),
         [b"abandon"] => Call::Abandon,
         [b"lookup"] => Call::Lookup(Vec::new()),
         [b"lookup", name] => Call::Lookup(name.to_vec()),
         [b"state"] => Call::State,
         [b"lend", b"record", b"all"] => Call::LendRecord(None),
-        [b"lend", b"record", count] => Call::LendRecord(Some(number(count)?)),
+        [b"lend", b"record", count] => Call::LendRecord(Some(natural(count)?)),
         [b"lend", b"marks", b"all"] => Call::LendMarks(None),
-        [b"lend", b"marks", count] => Call::LendMarks(Some(number(count)?)),
+        [b"lend", b"marks", count] => Call::LendMarks(Some(natural(count)?)),
         [b"hold", b"idle"] => Call::Hold(Operation::Idle),
         [b"hold", b"read", variable, step, gathered] => Call::Hold(Operation::Reading {
-            variable: number(variable)?,
-            step: number(step)?,
-            gathered: number(gathered)?,
+            variable: natural(variable)?,
+            step: natural(step)?,
+            gathered: natural(gathered)?,
         }),
         [b"hold", b"write", variable, step, value] => Call::Hold(Operation::Writing {
-            variable: number(variable)?,
-            step: number(step)?,
-            value: number(value)?,
+            variable: natural(variable)?,
+            step: natural(step)?,
+            value: natural(value)?,
         }),
         _ => return None,
     })
 }
 
 /// The fields of a line, split at spaces and tabs.
-fn fields(line: &[u8]) -> impl Iterator<Item = &[u8]> {
+pub fn fields(line: &[u8]) -> impl Iterator<Item = &[u8]> {
     line.split(|b| matches!(b, b' ' | b'\t'))
         .filter(|field| !field.is_empty())
 }
 
-/// A number, decimal or `0x..`, with a minus where the kind has negative ones.
-fn number<T: TryFrom<i128>>(field: &[u8]) -> Option<T> {
-    let (negative, digits) = match field {
-        [b'-', digits @ ..] => (true, digits),
-        digits => (false, digits),
-    };
-    let (radix, digits) = match digits {
+/// A number without a sign, decimal or `0x..`.
+pub fn natural<T: TryFrom<i128>>(field: &[u8]) -> Option<T> {
+    T::try_from(magnitude(field)?).ok()
+}
+
+/// A value: a number, perhaps behind a minus.
+fn value(field: &[u8]) -> Option<i64> {
+    match field {
+        [b'-', digits @ ..] => i64::try_from(-magnitude(digits)?).ok(),
+        digits => i64::try_from(magnitude(digits)?).ok(),
+    }
+}
+
+fn magnitude(field: &[u8]) -> Option<i128> {
+    let (radix, digits) = match field {
         [b'0', b'x', digits @ ..] => (16, digits),
         digits => (10, digits),
     };
@@ -130,7 +139,7 @@ fn number<T: TryFrom<i128>>(field: &[u8]) -> Option<T> {
             .checked_mul(i128::from(radix))?
             .checked_add(i128::from(digit))?;
     }
-    T::try_from(if negative { -value } else { value }).ok()
+    Some(value)
 }
 
 /// A loaded text with a station's state over its tables.
@@ -222,6 +231,18 @@ impl Session {
         answer
     }
 
+    /// What a line is answered with; nothing, if it is blank or a comment.
+    fn answer(&mut self, line: &[u8]) -> Option<String> {
+        let first = fields(line).next()?;
+        if first.starts_with(b";") {
+            return None;
+        }
+        Some(match parse(line) {
+            Some(call) => self.perform(&call),
+            None => "unknown".to_string(),
+        })
+    }
+
     /// `record BB BB .. marks M M .. operation ..`, with the whole record and all marks.
     fn state(&self) -> String {
         let mut line = "record".to_string();
@@ -246,22 +267,25 @@ fn lend(bytes: &mut [u8], count: Option<usize>, there: bool) -> &mut [u8] {
     &mut bytes[..if there { count } else { 0 }]
 }
 
-/// Runs the lines of a script over a text; gives the lines that it writes.
-pub fn replay(text: &[u8], script: &[u8]) -> Vec<String> {
-    let mut written = vec![load(text).to_string()];
-    let Ok(mut session) = Session::new(text) else {
-        return written;
-    };
-    for line in script.split(|b| *b == b'\n') {
-        match fields(line).next() {
-            None => continue,
-            Some(field) if field.starts_with(b";") => continue,
-            Some(_) => {}
+/// Runs the scripts of an input, each a framed text and then calls over it; gives the lines that
+/// they write. Calls are heard over an accepted text, so what stands behind a refused one, or
+/// before the first, is passed over.
+pub fn replay(input: &[u8]) -> Vec<String> {
+    let mut written = Vec::new();
+    let mut session = None;
+    let mut at = 0;
+    while at < input.len() {
+        if let Ok((text, next)) = frame::read(input, at) {
+            written.push(load(text).to_string());
+            session = Session::new(text).ok();
+            at = next;
+            continue;
         }
-        written.push(match parse(line) {
-            Some(call) => session.perform(&call),
-            None => "unknown".to_string(),
-        });
+        let line = input[at..].split(|b| *b == b'\n').next().unwrap_or(&[]);
+        if let Some(session) = &mut session {
+            written.extend(session.answer(line));
+        }
+        at += line.len() + 1;
     }
     written
 }
@@ -272,18 +296,19 @@ mod tests {
 
     #[test]
     fn numbers() {
-        assert_eq!(number::<u8>(b"255"), Some(255));
-        assert_eq!(number::<u8>(b"0xfF"), Some(255));
-        assert_eq!(number::<u8>(b"256"), None);
-        assert_eq!(number::<u8>(b"-1"), None);
-        assert_eq!(number::<i64>(b"-0x10"), Some(-16));
-        assert_eq!(number::<i64>(b"-9223372036854775808"), Some(i64::MIN));
-        assert_eq!(number::<i64>(b"9223372036854775808"), None);
-        assert_eq!(number::<u32>(b"4294967296"), None);
+        assert_eq!(natural::<u8>(b"255"), Some(255));
+        assert_eq!(natural::<u8>(b"0xfF"), Some(255));
+        assert_eq!(natural::<u8>(b"256"), None);
+        assert_eq!(natural::<u8>(b"-0"), None);
+        assert_eq!(natural::<u32>(b"4294967296"), None);
+        assert_eq!(value(b"-0x10"), Some(-16));
+        assert_eq!(value(b"-0"), Some(0));
+        assert_eq!(value(b"-9223372036854775808"), Some(i64::MIN));
+        assert_eq!(value(b"9223372036854775808"), None);
         for bad in [&b""[..], b"-", b"0x", b"+1", b"1a", b"0X1", b"--1", b"1.0"] {
-            assert_eq!(number::<i64>(bad), None);
+            assert_eq!(value(bad), None);
         }
-        assert_eq!(number::<i64>("9".repeat(100).as_bytes()), None);
+        assert_eq!(value("9".repeat(100).as_bytes()), None);
     }
 
     #[test]

@@ -20,8 +20,10 @@ fn the_papers_answers() {
 #[test]
 fn the_scripts_answers() {
     for script in stored::scripts() {
-        let written = replay::replay(script.text.as_bytes(), script.lines().as_bytes());
-        assert_eq!(written[1..], script.answers(), "{}", script.name);
+        let written = replay::replay(&script.input());
+        if let Some(answers) = script.expected {
+            assert_eq!(written[1..], answers, "{}", script.name);
+        }
     }
 }
 
@@ -45,7 +47,7 @@ fn the_files_are_those_of_the_lists() {
     let here = "rust/second/cases/";
     let home = root.join(here);
     let listed = files.iter().filter(|(path, _)| path.starts_with(here));
-    assert_eq!(count(&home) + count(&home.join("scripts")), listed.count());
+    assert_eq!(count(&home), listed.count());
 }
 
 /// The texts that are shown token by token have every reserved word, every sign, every kind of
@@ -97,9 +99,48 @@ fn every_number_is_there() {
     }
 }
 
+/// Every answer of a call, and every refusal that sound tables leave, stands among the stored scripts; and they fit into the
+/// proved program's space, to which the whole input is read.
+#[test]
+fn every_answer_is_there() {
+    let files = stored::files().unwrap();
+    let file = |name: &str| &files.iter().find(|(path, _)| path == name).unwrap().1;
+    assert!(file("crates/replay/stdin").len() < 1 << 20);
+    let output = String::from_utf8(file("crates/replay/stdout").clone()).unwrap();
+    for start in [
+        "opened",
+        "offer read",
+        "offer write",
+        "done",
+        "abandoned",
+        "variable",
+        "none",
+        "record",
+        "lent",
+        "held",
+        "unknown",
+        "refused 4",
+        "refused 21",
+        "refused 22",
+        "refused 23",
+        "refused 24",
+        "refused 25",
+        "refused 26",
+        "refused 27",
+        "refused 28",
+    ] {
+        let count = output
+            .lines()
+            .filter(|line| line.starts_with(start))
+            .count();
+        assert!(count > 0, "{start}");
+    }
+}
+
 #[test]
 fn names_are_told_apart() {
     let mut names: Vec<String> = stored::texts().into_iter().map(|case| case.name).collect();
+    names.extend(stored::scripts().into_iter().map(|script| script.name));
     let count = names.len();
     names.sort();
     names.dedup();

@@ -5,13 +5,13 @@
 
 mod boards;
 mod grammar;
+mod lines;
 mod order;
 mod rules;
+mod runs;
 mod scripts;
 mod sizes;
 mod tokens;
-
-pub use scripts::{scripts, Script};
 
 use crate::{frame, load, outline, replay, token_line};
 
@@ -27,6 +27,57 @@ pub struct Case {
     pub name: String,
     pub text: Vec<u8>,
     pub expected: Option<String>,
+}
+
+/// A text and lines over it, and the lines that they write where the papers settle them, the verdict aside.
+#[derive(Clone, Debug)]
+pub struct Script {
+    pub name: String,
+    pub text: Vec<u8>,
+    pub lines: Vec<u8>,
+    pub expected: Option<Vec<String>>,
+}
+
+impl Script {
+    /// Each call stands with its answer, as `call -> answer`.
+    fn answered(name: &str, text: &str, calls: &str) -> Script {
+        let pairs = calls.lines().map(|line| {
+            line.trim_start()
+                .split_once(" -> ")
+                .unwrap_or_else(|| panic!("{name}: no answer: {line}"))
+        });
+        let lines: String = pairs.clone().map(|(call, _)| format!("{call}\n")).collect();
+        Script {
+            expected: Some(pairs.map(|(_, answer)| answer.to_string()).collect()),
+            ..Script::open(name, text, &lines)
+        }
+    }
+
+    /// What the lines write is only computed.
+    fn open(name: &str, text: &str, lines: &str) -> Script {
+        Script {
+            name: name.to_string(),
+            text: text.as_bytes().to_vec(),
+            lines: lines.as_bytes().to_vec(),
+            expected: None,
+        }
+    }
+
+    /// The script as `replay` reads it.
+    pub fn input(&self) -> Vec<u8> {
+        let mut input = Vec::new();
+        frame::write(&self.text, &mut input);
+        input.extend_from_slice(&self.lines);
+        input
+    }
+}
+
+/// All stored scripts. The last ends without a newline.
+pub fn scripts() -> Vec<Script> {
+    let mut scripts = scripts::scripts();
+    scripts.extend(runs::scripts());
+    scripts.extend(lines::scripts());
+    scripts
 }
 
 /// All stored texts, in the order of document 01.
@@ -105,28 +156,30 @@ fn text_files() -> Result<Vec<StoredFile>, String> {
     ])
 }
 
-/// The scripts, and what they write.
+/// What stands before the first text is passed over.
+const BEFORE: &[u8] = b"; each script is a text and calls over it\nopen 1\ntext 3\nstate\n";
+
+/// Input and output of the proved program `replay`, and the scripts' names.
 fn script_files() -> Result<Vec<StoredFile>, String> {
-    let mut files = Vec::new();
+    let mut input = BEFORE.to_vec();
+    let mut output = String::new();
+    let mut names = String::new();
     for script in scripts() {
-        let mut input = Vec::new();
-        frame::write(script.text.as_bytes(), &mut input);
-        let lines = script.lines();
-        input.extend_from_slice(lines.as_bytes());
-        let written = replay::replay(script.text.as_bytes(), lines.as_bytes());
-        for ((call, answer), line) in lines.lines().zip(script.answers()).zip(&written[1..]) {
+        let written = replay::replay(&script.input());
+        for (answer, line) in script.expected.iter().flatten().zip(&written[1..]) {
             if answer != line {
-                return Err(format!("{}: {call}: {line}, not {answer}", script.name));
+                return Err(format!("{}: {line}, not {answer}", script.name));
             }
         }
-        let written: String = written.iter().map(|line| format!("{line}\n")).collect();
-        files.push((format!("{HOME}/scripts/{}.script", script.name), input));
-        files.push((
-            format!("{HOME}/scripts/{}.answers", script.name),
-            written.into_bytes(),
-        ));
+        input.extend_from_slice(&script.input());
+        output.extend(written.iter().map(|line| format!("{line}\n")));
+        names += &format!("{}\n", script.name);
     }
-    Ok(files)
+    Ok(vec![
+        ("crates/replay/stdin".to_string(), input),
+        ("crates/replay/stdout".to_string(), output.into_bytes()),
+        (format!("{HOME}/scripts.names"), names.into_bytes()),
+    ])
 }
 
 #[derive(Default)]

@@ -1,37 +1,6 @@
 //! Scripts for the station, each with the lines that it writes.
 
-use super::A;
-
-/// A text and calls over it. Each call stands with its answer, as `call -> answer`.
-#[derive(Clone, Debug)]
-pub struct Script {
-    pub name: &'static str,
-    pub text: String,
-    pub calls: &'static str,
-}
-
-impl Script {
-    /// The lines of the script that `replay` reads.
-    pub fn lines(&self) -> String {
-        self.pairs().map(|(call, _)| format!("{call}\n")).collect()
-    }
-
-    /// The lines that it is to write, the verdict aside.
-    pub fn answers(&self) -> Vec<&'static str> {
-        self.pairs().map(|(_, answer)| answer).collect()
-    }
-
-    fn pairs(&self) -> impl Iterator<Item = (&'static str, &'static str)> {
-        self.calls
-            .lines()
-            .map(str::trim)
-            .filter(|line| !line.is_empty())
-            .map(|line| {
-                line.split_once(" -> ")
-                    .unwrap_or_else(|| panic!("no answer: {line}"))
-            })
-    }
-}
+use super::{Script, A};
 
 const BUSMOUSE: &str =
     "device d(b:bit[8] port@{0..3}){register r=write b@2,mask '1..00000':bit[8];\
@@ -69,11 +38,7 @@ const BACK: &str =
     variable v=q[7..6]#p[3..0]#q[0,5..4]:int(9);variable w=p[7..4]:int(4);}";
 
 pub fn scripts() -> Vec<Script> {
-    let script = |name, text: &str, calls| Script {
-        name,
-        text: text.to_string(),
-        calls,
-    };
+    let script = Script::answered;
     vec![
         script(
             "marked-mask",
@@ -182,6 +147,21 @@ pub fn scripts() -> Vec<Script> {
              state -> record 07 marks 0 operation read 9 9 9
              open 8 -> opened
              state -> record 08 marks 0 operation idle",
+        ),
+        script(
+            "a-refused-opening-keeps-the-operation",
+            PARTS,
+            "open 0 0 0 0 -> opened
+             write 2 0x1234 -> offer write 1 4 0x12
+             open 1 2 3 -> refused 21
+             state -> record 00 00 00 00 marks 0 0 0 operation write 2 0 4660
+             confirm 0 -> offer write 1 3 0x34
+             lend marks 2 -> lent
+             open 1 2 3 4 -> refused 21
+             lend marks all -> lent
+             confirm 0 -> done 4660 2
+             open 1 2 3 4 -> opened
+             state -> record 01 02 03 04 marks 0 0 0 operation idle",
         ),
         script(
             "the-lowest-number",
@@ -472,20 +452,6 @@ pub fn scripts() -> Vec<Script> {
              read 0 -> refused 25
              write 0 0 -> refused 25
              confirm 0 -> refused 24",
-        ),
-        script(
-            "lines-that-are-no-calls",
-            A,
-            "open 256 -> unknown
-             opened 1 -> unknown
-             open 0x -> unknown
-             read -> unknown
-             read zero -> unknown
-             confirm -1 -> unknown
-             write 0 1 2 -> unknown
-             lend tables 1 -> unknown
-             hold write 0 0 -1 -> unknown
-             state -> record marks operation idle",
         ),
     ]
 }

@@ -1,0 +1,5 @@
+-- Laws that several proofs cite.
+pub mod FieldLaws
+pub mod CallLaws
+pub mod SessionLaws
+pub mod LineLaws

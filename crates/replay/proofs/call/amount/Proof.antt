@@ -1,0 +1,42 @@
+-- `replay::call::amount` meets its contract. Assumes nothing.
+use Rattle.replay.proofs.CallLaws.{amount-all, amount-some}
+use borrow.Author.Needs.{needs}
+use Rattle.replay.proofs.call.amount.Statement.{statement}
+use Rattle.replay.proofs.call.amount.Tie as tie
+
+word-requires : tie.Need-word-requires
+word-requires c κs = search needs
+
+slice-aggregate-is : tie.Need-slice-aggregate-is
+slice-aggregate-is c = search needs
+
+is-requires : tie.Need-is-requires
+is-requires c κs = search needs
+
+rest-requires : tie.Need-rest-requires
+rest-requires c κs = search needs
+
+is-bare-requires : tie.Need-is-bare-requires
+is-bare-requires c κs = search needs
+
+only-number-requires : tie.Need-only-number-requires
+only-number-requires c κs = search needs
+
+returns : tie.Need-returns
+returns c = amount-all _ _ _ (c .before .before .before .before .before .word .ensures) (c .before .before .rest .ensures) _ _ (c .before .before .before .is .ensures) (c .before .is-bare .ensures) (c .if1 .taken)
+
+returns-2 : tie.Need-returns-2
+returns-2 c = amount-some _ _ _ (c .before .before .before .before .before .before .word .ensures) (c .before .before .before .rest .ensures) _ _ (c .before .before .before .before .is .ensures) (c .before .before .is-bare .ensures) _ (c .only-number .ensures) (c .before .if1 .left)
+
+pub amount-spec : {M : Type 1} → statement M
+amount-spec =
+    tie.close
+    (tie.spec
+    word-requires
+    slice-aggregate-is
+    is-requires
+    rest-requires
+    is-bare-requires
+    only-number-requires
+    returns
+    returns-2)

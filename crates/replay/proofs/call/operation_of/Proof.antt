@@ -1,0 +1,88 @@
+-- `replay::call::operation_of` meets its contract. Assumes nothing.
+use mathlib.Core.Path.{sym, ap, _∙_}
+use Rattle.replay.specs.Calls.{readOf, confirmOf}
+use Rattle.replay.proofs.CallLaws.{chosen-here, chosen-on, chosen-none}
+use borrow.Author.Needs.{needs}
+use Rattle.replay.proofs.call.operation_of.Statement.{statement}
+use Rattle.replay.proofs.call.operation_of.Tie as tie
+
+slice-aggregate-is : tie.Need-slice-aggregate-is
+slice-aggregate-is c = search needs
+
+is-requires : tie.Need-is-requires
+is-requires c κs = search needs
+
+only-number-requires : tie.Need-only-number-requires
+only-number-requires c κs = search needs
+
+read-of-requires : tie.Need-read-of-requires
+read-of-requires c κs = search needs
+
+returns : tie.Need-returns
+returns c = chosen-here _ _ _ (sym (c .before .before .before .is .ensures) ∙ c .before .before .if1 .taken) (c .read-of .ensures ∙ ap readOf (c .before .only-number .ensures))
+
+slice-aggregate-is-2 : tie.Need-slice-aggregate-is-2
+slice-aggregate-is-2 c = search needs
+
+is-requires-2 : tie.Need-is-requires-2
+is-requires-2 c κs = search needs
+
+write-of-requires : tie.Need-write-of-requires
+write-of-requires c κs = search needs
+
+returns-2 : tie.Need-returns-2
+returns-2 c = chosen-on _ _ _ (sym (c .before .before .before .before .before .is .ensures) ∙ c .before .before .before .before .if1 .left) (chosen-here _ _ _ (sym (c .before .before .is2 .ensures) ∙ c .before .if2 .taken) (c .write-of .ensures))
+
+slice-aggregate-is-3 : tie.Need-slice-aggregate-is-3
+slice-aggregate-is-3 c = search needs
+
+is-requires-3 : tie.Need-is-requires-3
+is-requires-3 c κs = search needs
+
+only-number-requires-2 : tie.Need-only-number-requires-2
+only-number-requires-2 c κs = search needs
+
+confirm-of-requires : tie.Need-confirm-of-requires
+confirm-of-requires c κs = search needs
+
+returns-3 : tie.Need-returns-3
+returns-3 c = chosen-on _ _ _ (sym (c .before .before .before .before .before .before .before .before .before .is .ensures) ∙ c .before .before .before .before .before .before .before .before .if1 .left) (chosen-on _ _ _ (sym (c .before .before .before .before .before .before .is2 .ensures) ∙ c .before .before .before .before .before .if2 .left) (chosen-here _ _ _ (sym (c .before .before .before .is3 .ensures) ∙ c .before .before .if3 .taken) (c .confirm-of .ensures ∙ ap confirmOf (c .before .only-number2 .ensures))))
+
+slice-aggregate-is-4 : tie.Need-slice-aggregate-is-4
+slice-aggregate-is-4 c = search needs
+
+is-requires-4 : tie.Need-is-requires-4
+is-requires-4 c κs = search needs
+
+bare-requires : tie.Need-bare-requires
+bare-requires c κs = search needs
+
+returns-4 : tie.Need-returns-4
+returns-4 c = chosen-on _ _ _ (sym (c .before .before .before .before .before .before .before .before .before .before .before .is .ensures) ∙ c .before .before .before .before .before .before .before .before .before .before .if1 .left) (chosen-on _ _ _ (sym (c .before .before .before .before .before .before .before .before .is2 .ensures) ∙ c .before .before .before .before .before .before .before .if2 .left) (chosen-on _ _ _ (sym (c .before .before .before .before .before .is3 .ensures) ∙ c .before .before .before .before .if3 .left) (chosen-here _ _ _ (sym (c .before .before .is4 .ensures) ∙ c .before .if4 .taken) (c .bare .ensures))))
+
+returns-5 : tie.Need-returns-5
+returns-5 c = chosen-on _ _ _ (sym (c .before .before .before .before .before .before .before .before .before .before .is .ensures) ∙ c .before .before .before .before .before .before .before .before .before .if1 .left) (chosen-on _ _ _ (sym (c .before .before .before .before .before .before .before .is2 .ensures) ∙ c .before .before .before .before .before .before .if2 .left) (chosen-on _ _ _ (sym (c .before .before .before .before .is3 .ensures) ∙ c .before .before .before .if3 .left) (chosen-on _ _ _ (sym (c .before .is4 .ensures) ∙ c .if4 .left) chosen-none)))
+
+pub operation-of-spec : {M : Type 1} → statement M
+operation-of-spec =
+    tie.close
+    (tie.spec
+    slice-aggregate-is
+    is-requires
+    only-number-requires
+    read-of-requires
+    returns
+    slice-aggregate-is-2
+    is-requires-2
+    write-of-requires
+    returns-2
+    slice-aggregate-is-3
+    is-requires-3
+    only-number-requires-2
+    confirm-of-requires
+    returns-3
+    slice-aggregate-is-4
+    is-requires-4
+    bare-requires
+    returns-4
+    returns-5)

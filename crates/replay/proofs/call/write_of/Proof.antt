@@ -1,0 +1,35 @@
+-- `replay::call::write_of` meets its contract. Assumes nothing.
+use mathlib.Core.Path.{_∙_}
+use Rattle.replay.proofs.CallLaws.{write-so}
+use borrow.Author.Needs.{needs}
+use Rattle.replay.proofs.call.write_of.Statement.{statement}
+use Rattle.replay.proofs.call.write_of.Tie as tie
+
+word-requires : tie.Need-word-requires
+word-requires c κs = search needs
+
+number-of-requires : tie.Need-number-of-requires
+number-of-requires c κs = search needs
+
+rest-requires : tie.Need-rest-requires
+rest-requires c κs = search needs
+
+only-value-requires : tie.Need-only-value-requires
+only-value-requires c κs = search needs
+
+write-requires : tie.Need-write-requires
+write-requires c κs = search needs
+
+returns : tie.Need-returns
+returns c = c .write .ensures ∙ write-so _ _ _ (c .before .before .before .before .word .ensures) (c .before .before .rest .ensures) _ _ (c .before .before .before .number-of .ensures) (c .before .only-value .ensures)
+
+pub write-of-spec : {M : Type 1} → statement M
+write-of-spec =
+    tie.close
+    (tie.spec
+    word-requires
+    number-of-requires
+    rest-requires
+    only-value-requires
+    write-requires
+    returns)

@@ -1,0 +1,133 @@
+-- What a line of a script asks for, by its words: rust/second/README.md, "Scripts".
+use mathlib.Core.Bool.{Bool, true, false, cond, _&&_}
+use mathlib.Core.List.{List, [], _∷_}
+use Prim.Native.Nat.{ℕ, _-_, _^_}
+use Prim.Native.Char.{code}
+use lib.Dec.{eqb}
+use Rattle.token.specs.Bytes.{bytes, same}
+use Rattle.script.specs.Numbers.{numberOf}
+use Rattle.script.specs.declared.numbers.Number.{Number}
+use Rattle.script.specs.declared.numbers.Number.the-variants as number
+use Rattle.script.specs.declared.numbers.Value.{Value}
+use Rattle.script.specs.declared.numbers.Value.the-variants as value
+use Rattle.station.specs.declared.Operation.{Operation}
+use Rattle.station.specs.declared.Operation.the-variants.{Idle, Reading, Writing}
+use Rattle.replay.specs.declared.call.Request.the-variants.{Open, Read, Write, Confirm, Abandon}
+use Rattle.replay.specs.declared.call.Call.{Call}
+use Rattle.replay.specs.declared.call.Call.the-variants.{Nothing, Station, Lookup, State, LendRecord, LendMarks, Hold, Unknown}
+use Rattle.replay.specs.Fields.{isNone, onlyNumber, onlyValue, belowOf, countFrom}
+
+-- the call of the first test that holds
+unfoldable pub chosen : List (Bool × Call) → Call
+chosen [] = Unknown
+chosen (entry ∷ more) = cond (entry .0) (entry .1) (chosen more)
+
+-- a call that nothing may follow
+unfoldable pub bareOf : List (List ℕ) → Call → Call
+bareOf words call = cond (isNone words) call Unknown
+
+-- `open B0 B1 ..`
+unfoldable pub openOf : Number → Call
+openOf (number.Is count) = Station (Open count)
+openOf number.Nothing = Unknown
+
+-- `lookup NAME`; without a name it asks for the empty one
+unfoldable pub lookupOf : List (List ℕ) → Call
+lookupOf [] = Lookup
+lookupOf (name ∷ words) = bareOf words Lookup
+
+-- `read V`
+unfoldable pub readOf : Number → Call
+readOf (number.Is v) = Station (Read v)
+readOf number.Nothing = Unknown
+
+-- `write V VALUE`
+unfoldable pub writing : Number → Value → Call
+writing (number.Is v) (value.Is z) = Station (Write v z)
+writing (number.Is v) value.Nothing = Unknown
+writing number.Nothing z = Unknown
+
+unfoldable pub writeOf : List (List ℕ) → Call
+writeOf [] = Unknown
+writeOf (v ∷ words) = writing (numberOf v) (onlyValue words)
+
+-- `confirm B`
+unfoldable pub confirming : Number → Call
+confirming (number.Is b) = Station (Confirm b)
+confirming number.Nothing = Unknown
+
+abbrev pub confirmOf : Number → Call
+confirmOf n = confirming (belowOf 256 n)
+
+-- `lend record K`, `lend marks K`; all of it is 2 ^ 64 - 1 bytes, more than there are
+unfoldable pub isAll : List (List ℕ) → Bool
+isAll [] = false
+isAll (word ∷ words) = same word (bytes "all") && isNone words
+
+unfoldable pub amountOf : List (List ℕ) → Number
+amountOf words = cond (isAll words) (number.Is (2 ^ 64 - 1)) (onlyNumber words)
+
+unfoldable pub lent : List ℕ → Number → Call
+lent what (number.Is k) = chosen ((same what (bytes "record"), LendRecord k) ∷ (same what (bytes "marks"), LendMarks k) ∷ [])
+lent what number.Nothing = Unknown
+
+unfoldable pub lendOf : List (List ℕ) → Call
+lendOf [] = Unknown
+lendOf (what ∷ words) = lent what (amountOf words)
+
+-- `hold idle`, `hold read V STEP GATHERED`, `hold write V STEP VALUE`
+unfoldable pub inHand : Bool → ℕ → ℕ → ℕ → Operation
+inHand true v step pattern = Reading v step pattern
+inHand false v step pattern = Writing v step pattern
+
+unfoldable pub held : Bool → Number → Number → Number → Call
+held reading (number.Is v) (number.Is step) (number.Is pattern) = Hold (inHand reading v step pattern)
+held reading (number.Is v) (number.Is step) number.Nothing = Unknown
+held reading (number.Is v) number.Nothing pattern = Unknown
+held reading number.Nothing step pattern = Unknown
+
+unfoldable pub heldOf : Bool → List (List ℕ) → Call
+heldOf reading [] = Unknown
+heldOf reading (v ∷ []) = Unknown
+heldOf reading (v ∷ step ∷ words) = held reading (numberOf v) (numberOf step) (belowOf (2 ^ 32) (onlyNumber words))
+
+unfoldable pub holding : List ℕ → List (List ℕ) → Call
+holding what words =
+    chosen
+    ((same what (bytes "idle"), bareOf words (Hold Idle))
+    ∷ (same what (bytes "read"), heldOf true words)
+    ∷ (same what (bytes "write"), heldOf false words)
+    ∷ [])
+
+unfoldable pub holdOf : List (List ℕ) → Call
+holdOf [] = Unknown
+holdOf (what ∷ words) = holding what words
+
+-- ── every call by its first word ──
+
+abbrev pub operations : List ℕ → List (List ℕ) → List (Bool × Call)
+operations verb words =
+    (same verb (bytes "read"), readOf (onlyNumber words))
+    ∷ (same verb (bytes "write"), writeOf words)
+    ∷ (same verb (bytes "confirm"), confirmOf (onlyNumber words))
+    ∷ (same verb (bytes "abandon"), bareOf words (Station Abandon))
+    ∷ []
+
+unfoldable pub callBy : List ℕ → List (List ℕ) → Call
+callBy verb words =
+    chosen
+    ((same verb (bytes "open"), openOf (countFrom words 0))
+    ∷ (same verb (bytes "lookup"), lookupOf words)
+    ∷ (same verb (bytes "state"), bareOf words State)
+    ∷ (same verb (bytes "lend"), lendOf words)
+    ∷ (same verb (bytes "hold"), holdOf words)
+    ∷ operations verb words)
+
+-- a line without a word, and one whose first word begins with `;`, asks for nothing
+unfoldable pub isSkipped : List ℕ → Bool
+isSkipped [] = true
+isSkipped (x ∷ word) = eqb x (code ";")
+
+unfoldable pub callOf : List (List ℕ) → Call
+callOf [] = Nothing
+callOf (verb ∷ words) = cond (isSkipped verb) Nothing (callBy verb words)

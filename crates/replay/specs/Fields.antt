@@ -1,0 +1,61 @@
+-- The words behind the first one of a line, as numbers, values and bytes.
+use mathlib.Core.Bool.{Bool, true, false, cond}
+use mathlib.Core.List.{List, [], _∷_}
+use Prim.Native.Nat.{ℕ, _+_}
+use lib.Dec.{ltb}
+use lib.ListN.{set, replicate}
+use Rattle.script.specs.Numbers.{numberOf, valueOf}
+use Rattle.script.specs.declared.numbers.Number.{Number}
+use Rattle.script.specs.declared.numbers.Number.the-variants as number
+use Rattle.script.specs.declared.numbers.Value.{Value}
+use Rattle.script.specs.declared.numbers.Value.the-variants as value
+
+unfoldable pub isNone : List (List ℕ) → Bool
+isNone [] = true
+isNone (word ∷ more) = false
+
+-- the number, or the value, that is the only word
+unfoldable pub onlyNumber : List (List ℕ) → Number
+onlyNumber [] = number.Nothing
+onlyNumber (word ∷ []) = numberOf word
+onlyNumber (word ∷ next ∷ more) = number.Nothing
+
+unfoldable pub onlyValue : List (List ℕ) → Value
+onlyValue [] = value.Nothing
+onlyValue (word ∷ []) = valueOf word
+onlyValue (word ∷ next ∷ more) = value.Nothing
+
+-- the number, if it is less than a limit
+unfoldable pub belowOf : ℕ → Number → Number
+belowOf limit (number.Is n) = cond (ltb n limit) (number.Is n) number.Nothing
+belowOf limit number.Nothing = number.Nothing
+
+unfoldable pub isSome : Number → Bool
+isSome (number.Is n) = true
+isSome number.Nothing = false
+
+-- how many bytes the words are, after n others, if each is one
+unfoldable pub countFrom : List (List ℕ) → ℕ → Number
+countFrom [] n = number.Is n
+countFrom (word ∷ more) n = elim (isSome (belowOf 256 (numberOf word))) [ true ↦ countFrom more (n + 1) | false ↦ number.Nothing ]
+
+-- the byte that a word is, and 0 where it is none
+unfoldable pub byteBy : Number → ℕ
+byteBy (number.Is b) = b
+byteBy number.Nothing = 0
+
+abbrev pub byteOf : List ℕ → ℕ
+byteOf word = byteBy (belowOf 256 (numberOf word))
+
+-- the byte stored at a place, or nowhere past the end
+abbrev pub stored : List ℕ → ℕ → ℕ → List ℕ
+stored bytes at b = set bytes at b
+
+-- bytes with those that the words are laid over them, from a place on
+unfoldable pub laid : List (List ℕ) → ℕ → List ℕ → List ℕ
+laid [] at bytes = bytes
+laid (word ∷ more) at bytes = laid more (at + 1) (stored bytes at (byteOf word))
+
+-- the power-on bytes of an opening: zeros where it gives none
+unfoldable pub powerOn : List (List ℕ) → List ℕ
+powerOn words = laid words 0 (replicate 64 0)

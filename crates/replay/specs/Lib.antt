@@ -1,0 +1,3 @@
+pub mod Fields
+pub mod Calls
+pub mod Sessions

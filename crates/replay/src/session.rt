@@ -1,0 +1,315 @@
+// A station over one text, from call to call.
+//   kept    the record, of which no more than the tables need is used
+//   marks   for each variable 0, or 1 where an abandoned write left it half-written
+use crate::call::Call;
+use crate::call::Request;
+use crate::call::call_of;
+use crate::fields::power_on;
+use rules::Found;
+use script::rest;
+use station::Answer;
+use station::Operation;
+use station::Outcome;
+use tables::words::word;
+ghost use mathlib.Core.Path.{_≡_};
+ghost use Prim.Native.Nat.{_≤_, min};
+ghost use Rattle.replay.specs.declared.session.Reply.the-variants.{Lent, Held};
+ghost use Rattle.station.specs.Standing.{tablesOf};
+ghost use Rattle.station.specs.Promise.{Meets};
+ghost use Rattle.station.specs.Promise.{lent as station·lent};
+ghost use Rattle.replay.specs.Sessions.{begun, lentOf, isOpening, isOpened, requested, Leaves, sessionOf, turnOf, asked, performed, replied};
+
+// Whether an opening has succeeded, how many bytes of the record and how many marks are lent at most, and the operation in hand.
+pub struct Session {
+    pub opened: bool,
+    pub bytes: usize,
+    pub marks: usize,
+    pub operation: Operation,
+}
+
+// What a line is answered with. For `Stand`, the record, the marks and the operation are told.
+pub enum Reply {
+    Silence,
+    Answered(Answer),
+    Looked(Found),
+    Stand,
+    Lent,
+    Held,
+    Unknown,
+}
+
+pub struct Turn {
+    pub session: Session,
+    pub reply: Reply,
+}
+
+// All that there is.
+pub const ALL: usize = 18446744073709551615;
+
+pub fn begin() -> Session
+    ensures { λ r. ⌜ r ≡ begun ⌝ }
+{
+    Session {
+        opened: false,
+        bytes: ALL,
+        marks: ALL,
+        operation: Operation::Idle,
+    }
+}
+
+fn least(a: usize, b: usize) -> usize
+    ensures { λ r. ⌜ r ≡ min a b ⌝ }
+    ensures { λ r. ⌜ r ≤ b ⌝ }
+{
+    if a < b { a } else { b }
+}
+
+// How many bytes are lent of those that the tables need: none before the first opening.
+pub fn lent(there: bool, most: usize, needed: usize, room: usize) -> usize
+    ensures { λ r. ⌜ r ≡ lentOf there most needed room ⌝ }
+    ensures { λ r. ⌜ r ≤ room ⌝ }
+{
+    if there {
+        least(most, least(needed, room))
+    } else {
+        0
+    }
+}
+
+fn is_opening(request: Request) -> bool
+    ensures { λ r. ⌜ r ≡ isOpening request ⌝ }
+{
+    match request {
+        Request::Open(_) => true,
+        Request::Read(_) => false,
+        Request::Write(_, _) => false,
+        Request::Confirm(_) => false,
+        Request::Abandon => false,
+    }
+}
+
+fn is_opened(answer: Answer) -> bool
+    ensures { λ r. ⌜ r ≡ isOpened answer ⌝ }
+{
+    match answer {
+        Answer::Opened => true,
+        Answer::Offer(_) => false,
+        Answer::Done {
+            value: _,
+            accesses: _,
+        } => false,
+        Answer::Abandoned => false,
+        Answer::Refused(_) => false,
+    }
+}
+
+// The five calls.
+fn outcome_of(
+    request: Request,
+    power: &[u8],
+    parameters: &[u32],
+    registers: &[u32],
+    variables: &[u32],
+    held: &mut [u8],
+    marks: &mut [u8],
+    operation: Operation,
+) -> Outcome
+    ensures { λ r. ⌜ Meets
+        (requested
+        (tablesOf (now (parameters .entry)) (now (registers .entry)) (now (variables .entry)))
+        (now (power .entry))
+        (station·lent (now (held .entry)) (now (marks .entry)) operation)
+        request)
+        (now (held .exit)) (now (marks .exit)) r ⌝ }
+{
+    match request {
+        Request::Open(count) => {
+            let given = least(count, power.len());
+            station::open(
+                parameters,
+                registers,
+                variables,
+                &power[..given],
+                held,
+                marks,
+                operation,
+            )
+        }
+        Request::Read(v) => {
+            station::begin_read(parameters, registers, variables, held, marks, operation, v)
+        }
+        Request::Write(v, value) => station::begin_write(
+            parameters,
+            registers,
+            variables,
+            held,
+            marks,
+            operation,
+            v,
+            value,
+        ),
+        Request::Confirm(byte) => station::confirm(
+            parameters,
+            registers,
+            variables,
+            held,
+            marks,
+            operation,
+            byte,
+        ),
+        Request::Abandon => {
+            station::abandon(parameters, registers, variables, held, marks, operation)
+        }
+    }
+}
+
+fn ask(
+    request: Request,
+    power: &[u8],
+    parameters: &[u32],
+    registers: &[u32],
+    variables: &[u32],
+    kept: &mut [u8],
+    marks: &mut [u8],
+    session: Session,
+) -> Turn
+    ensures { λ r. ⌜ Leaves
+        (asked
+        (tablesOf (now (parameters .entry)) (now (registers .entry)) (now (variables .entry)))
+        (now (power .entry)) (now (kept .entry)) (now (marks .entry)) session request)
+        (now (kept .exit)) (now (marks .exit)) r ⌝ }
+{
+    let there = session.opened | is_opening(request);
+    let held = lent(there, session.bytes, word(registers, 0), kept.len());
+    let marked = lent(there, session.marks, word(variables, 0), marks.len());
+    let before = session.operation;
+    let outcome = outcome_of(
+        request,
+        power,
+        parameters,
+        registers,
+        variables,
+        &mut kept[..held],
+        &mut marks[..marked],
+        before,
+    );
+    let answer = outcome.answer;
+    let operation = outcome.operation;
+    let after = Session {
+        opened: session.opened | is_opened(answer),
+        bytes: session.bytes,
+        marks: session.marks,
+        operation,
+    };
+    Turn {
+        session: after,
+        reply: Reply::Answered(answer),
+    }
+}
+
+// The line changes nothing.
+fn stay(session: Session, reply: Reply) -> Turn
+    ensures { λ r. ⌜ r ≡ turnOf session reply ⌝ }
+{
+    Turn { session, reply }
+}
+
+fn lend(session: Session, bytes: usize, marks: usize) -> Turn
+    ensures { λ r. ⌜ r ≡ turnOf (sessionOf (session .opened) bytes marks (session .operation)) Lent ⌝ }
+{
+    let operation = session.operation;
+    let after = Session {
+        opened: session.opened,
+        bytes,
+        marks,
+        operation,
+    };
+    stay(after, Reply::Lent)
+}
+
+fn hold(session: Session, operation: Operation) -> Turn
+    ensures { λ r. ⌜ r ≡ turnOf (sessionOf (session .opened) (session .bytes) (session .marks) operation) Held ⌝ }
+{
+    let after = Session {
+        opened: session.opened,
+        bytes: session.bytes,
+        marks: session.marks,
+        operation,
+    };
+    stay(after, Reply::Held)
+}
+
+fn perform(
+    call: Call,
+    line: &[u8],
+    text: &[u8],
+    parameters: &[u32],
+    registers: &[u32],
+    variables: &[u32],
+    kept: &mut [u8],
+    marks: &mut [u8],
+    session: Session,
+) -> Turn
+    ensures { λ r. ⌜ Leaves
+        (performed
+        (tablesOf (now (parameters .entry)) (now (registers .entry)) (now (variables .entry)))
+        (now (text .entry)) (now (line .entry)) (now (kept .entry)) (now (marks .entry)) session call)
+        (now (kept .exit)) (now (marks .exit)) r ⌝ }
+{
+    match call {
+        Call::Nothing => stay(session, Reply::Silence),
+        Call::Station(request) => {
+            let power = power_on(rest(line));
+            ask(
+                request,
+                &power,
+                parameters,
+                registers,
+                variables,
+                kept,
+                marks,
+                session,
+            )
+        }
+        Call::Lookup => {
+            let found = loader::lookup(text, variables, script::word(rest(line)));
+            stay(session, Reply::Looked(found))
+        }
+        Call::State => stay(session, Reply::Stand),
+        Call::LendRecord(count) => lend(session, count, session.marks),
+        Call::LendMarks(count) => lend(session, session.bytes, count),
+        Call::Hold(operation) => hold(session, operation),
+        Call::Unknown => stay(session, Reply::Unknown),
+    }
+}
+
+// What a line is answered with, and what it leaves.
+pub fn answer(
+    line: &[u8],
+    text: &[u8],
+    parameters: &[u32],
+    registers: &[u32],
+    variables: &[u32],
+    kept: &mut [u8],
+    marks: &mut [u8],
+    session: Session,
+) -> Turn
+    ensures { λ r. ⌜ Leaves
+        (replied
+        (tablesOf (now (parameters .entry)) (now (registers .entry)) (now (variables .entry)))
+        (now (text .entry)) (now (line .entry)) (now (kept .entry)) (now (marks .entry)) session)
+        (now (kept .exit)) (now (marks .exit)) r ⌝ }
+{
+    let call = call_of(line);
+    perform(
+        call,
+        line,
+        text,
+        parameters,
+        registers,
+        variables,
+        kept,
+        marks,
+        session,
+    )
+}

@@ -1,0 +1,78 @@
+//! Scripts that no paper writes: a life of the scoring board, and generated ones.
+
+use super::Script;
+use crate::generate::{damaged_line, every_step, run, valid, Random};
+
+/// Texts longer than this add bytes to the stored files and nothing else.
+const LONGEST: usize = 700;
+
+pub fn scripts() -> Vec<Script> {
+    let mut scripts = vec![scoring()];
+    let mut random = Random::new(16);
+    for number in 0..120 {
+        let text = short_text(&mut random);
+        let length = random.between(5, 60);
+        let calls = run(&mut random, &text, length);
+        scripts.push(generated("run", number, text, &calls));
+    }
+    for number in 0..60 {
+        let text = short_text(&mut random);
+        let calls = every_step(&mut random, &text);
+        scripts.push(generated(
+            "every-step",
+            number,
+            text,
+            &calls[..calls.len().min(80)],
+        ));
+    }
+    for number in 0..120 {
+        let text = short_text(&mut random);
+        let length = random.between(5, 40);
+        let calls = run(&mut random, &text, length);
+        let mut script = generated("damaged", number, text, &[]);
+        for call in calls {
+            let line = call.to_string().into_bytes();
+            let damaged = random.one_in(3);
+            script.lines.extend(match damaged {
+                true => damaged_line(&mut random, line),
+                false => line,
+            });
+            script.lines.push(b'\n');
+        }
+        scripts.push(script);
+    }
+    scripts
+}
+
+fn short_text(random: &mut Random) -> Vec<u8> {
+    loop {
+        let text = valid(random);
+        if text.len() <= LONGEST {
+            return text;
+        }
+    }
+}
+
+fn generated(kind: &str, number: usize, text: Vec<u8>, calls: &[crate::replay::Call]) -> Script {
+    Script {
+        name: format!("generated-{kind}-{number}"),
+        text,
+        lines: calls
+            .iter()
+            .flat_map(|call| format!("{call}\n").into_bytes())
+            .collect(),
+        expected: None,
+    }
+}
+
+/// The script that lies beside the board's description. Its comments `; -> ..` are the answers.
+fn scoring() -> Script {
+    let lines = include_str!("../../../../boards/scoring.script");
+    let answers = lines.lines().filter_map(|line| line.strip_prefix("; -> "));
+    Script {
+        name: "scoring-board".to_string(),
+        text: include_bytes!("../../../../boards/scoring.devil").to_vec(),
+        lines: lines.as_bytes().to_vec(),
+        expected: Some(answers.map(str::to_string).collect()),
+    }
+}
