@@ -16,7 +16,7 @@ unfoldable pub inRange : ℕ → ℕ → ℤ → Bool
 inRange kind w (pos m) = ltb m (limitOf kind w)
 inRange kind w (negsuc m) = eqb kind 1 && ltb m (limitOf kind w)
 
--- the bits that carry a value in range, and the value that bits carry
+-- the bits that carry a value in range, and the value that a number below 2 ^ w carries
 unfoldable pub encode : ℕ → ℤ → ℕ
 encode w (pos m) = m
 encode w (negsuc m) = 2 ^ w - 1 - m

@@ -62,7 +62,7 @@ module _ (text : List ℕ) where
           (record {
             some = omega arith;
             few = omega (arith, leb-false 16 count e);
-            ranged = more-ranged count (rangeAfter text s .low) (rangeAfter text s .high) table r;
+            ranged = more-ranged count (rangeAfter text s .first) (rangeAfter text s .last) table r;
           })
 
   ranges-set : (table : List ℕ) (s : Step) → Ranged 0 table → Set 1 (rangesAfter text table s)

@@ -1,5 +1,5 @@
 -- THE GRAMMAR OF THE LANGUAGE, as 001 (sections 3 to 7) and 003 publish it and document 01 cuts it. It is to be believed: above each production stands its line
--- of BNF. Nothing else that is said of grammars is: what a grammar derives is defined in the crate `grammar`, and how it is read is proved.
+-- of BNF. What a grammar derives (`Text`, `StopsAt`) is defined in the crate `grammar`, for any grammar; how one is read is proved.
 use Prim.Native.String.{String}
 use mathlib.Core.List.{[], _∷_}
 use Rattle.token.specs.declared.Token.the-variants.{Name, Number, Bits}

@@ -70,7 +70,7 @@ module _ {X : Type 0} (judge : X → Declaration → X) where
         let head : Named = headAfter text (p .step) in
         taken p (aDevice head) (head .step)
 
-    -- a parameter; one too many is refused at its name
+    -- a parameter, with room for sixteen ranges of two words; one too many is refused at its name
     unfoldable pub parameterWith : Progress X → Progress X
     parameterWith p =
         let one : ParameterRead = parameterAfter text (replicate 32 0) (p .step) in
@@ -88,7 +88,7 @@ module _ {X : Type 0} (judge : X → Declaration → X) where
         pick (leb mostRegisters (p .registers)) (movedTo p (extraWord text 'register' (p .step)))
         (taken p (aRegister one) (fixedAfter text (sign ";") (one .step)))
 
-    -- variable ;
+    -- variable ;  with room for eight pieces of five words in each list
     unfoldable pub variableWith : Progress X → Progress X
     variableWith p =
         let one : VariableRead = variableAfter text (replicate 40 0) (replicate 40 0) (p .step) in

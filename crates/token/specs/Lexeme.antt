@@ -100,7 +100,8 @@ abbrev pub NoneLonger : List ℕ → ℕ → Type 0
 NoneLonger s n = (m : ℕ) → n < m → m ≤ length s → isLexeme (take m s) ≡ false
 
 -- 01, refusal 3, in its words, at the front of s: "no token begins here, a .. bits literal is unclosed, .. empty or holds another
--- character", "a comment .. is unclosed", "or a number is too large", which is then the longest match
+-- character", "a comment .. is unclosed", "or a number is too large", which is then the longest match. A comment's opening pair that is
+-- left where a token is due is unclosed, as specs/Passed.antt says of what is passed before a token
 abbrev pub NoToken : List ℕ → Type 0
 NoToken s =
     NoneLonger s 0
