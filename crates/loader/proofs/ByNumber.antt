@@ -2,8 +2,8 @@
 -- Assumes nothing.
 use Prim.Native.Nat.{ℕ, _≤_}
 use native.Mathlib.Omega.{arith}
-use mathlib.Core.Path.{_≡_, refl, sym, ap}
-use mathlib.Core.Bool.{true, false, false≢true}
+use mathlib.Core.Path.{_≡_, sym, ap}
+use mathlib.Core.Bool.{false, false≢true}
 use mathlib.Core.Logic.{_↔_, inl, inr}
 use mathlib.Core.List.{List}
 use Rattle.syntax.specs.declared.reader.Step.the-variants.{Refused as Stopped}
@@ -12,7 +12,7 @@ use Rattle.tables.specs.View.{Tables}
 use Rattle.loader.specs.declared.whole.Verdict.{Verdict}
 use Rattle.loader.specs.declared.whole.Verdict.the-variants.{Accepted, Refused}
 use Rattle.loader.specs.Load.{isAccepted, isShort, isLong, loadOf}
-use Rattle.loader.specs.Claim.{Unread, Accepts, Breaks, Misses, RightRead, RightVerdict}
+use Rattle.loader.specs.Claim.{Accepts, Breaks, Misses, RightRead, RightVerdict}
 use Rattle.loader.proofs.Numbers.{reading-number}
 use Rattle.loader.proofs.Exactly.{loads-exactly}
 

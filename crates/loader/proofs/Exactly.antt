@@ -3,7 +3,7 @@
 use Prim.Native.Nat.{ℕ, _≤_}
 use native.Mathlib.Omega.{arith}
 use mathlib.Core.Path.{_≡_, refl, sym, ap, _∙_, subst}
-use mathlib.Core.Bool.{Bool, true, false, not, false≢true}
+use mathlib.Core.Bool.{Bool, true, false, not}
 use mathlib.Core.Logic.{_↔_, inl, inr}
 use mathlib.Core.List.{List}
 use lib.Dec.{ltb}
@@ -25,21 +25,13 @@ use Rattle.loader.specs.declared.whole.Verdict.{Verdict}
 use Rattle.loader.specs.declared.whole.Verdict.the-variants.{Accepted, Refused}
 use Rattle.loader.specs.Load.{Loaded, judged, judgedAs, isAccepted, leftBy, laidOver, firstUncovered, onceRead, verdictOf, isShort, isLong, loadOf}
 use Rattle.loader.specs.Claim.{declared, tally, oneParameter, oneRegister, oneVariable, Reads, standing, mapped, AllMapped, FirstUnmapped, Unread, RightRead, RightVerdict, Leaves}
-use Rattle.loader.proofs.FirstLaws.{first-passes, first-before, first-all, first-only}
+use Rattle.loader.proofs.FirstLaws.{not-true, not-false, first-passes, first-before, first-all, first-only}
 use Rattle.loader.proofs.Numbers.{reading-number}
 use Rattle.loader.proofs.Breaking.{is-fault, not-none, all-keep, first-broken, broken-fault, keep-faultless}
 use Rattle.loader.proofs.Tallied.{tallied}
 use Rattle.loader.proofs.Accepted.{reached-judged}
 
 -- ---- rule 16, by the first register that fails
-not-true : {b : Bool} → not b ≡ true → b ≡ false
-not-true {b = false} h = refl
-not-true {b = true} h = absurd (false≢true h)
-
-not-false : {b : Bool} → not b ≡ false → b ≡ true
-not-false {b = true} h = refl
-not-false {b = false} h = absurd (false≢true (sym h))
-
 module _ (s : State) where
   abbrev count : ℕ
   count = countOf (s .registers)

@@ -3,12 +3,21 @@
 use Prim.Native.Nat.{ℕ, zero, suc, _<_}
 use native.Mathlib.Omega.{arith}
 use native.Mathlib.Nat.{not-suc-le-zero}
-use mathlib.Core.Path.{_≡_, refl, ap, _∙_}
-use mathlib.Core.Bool.{Bool, true, false, cond}
+use mathlib.Core.Path.{_≡_, refl, sym, ap, _∙_}
+use mathlib.Core.Bool.{Bool, true, false, not, cond, false≢true}
 use lib.Dec.{ltb}
 use borrow.Author.Tests.{ltb-true, ltb-false, le-ltb}
 use Rattle.tables.specs.Every.{firstOf}
 use Rattle.tables.proofs.Laws.{first-found}
+
+-- tests turned round
+pub not-true : {b : Bool} → not b ≡ true → b ≡ false
+not-true {b = false} h = refl
+not-true {b = true} h = absurd (false≢true h)
+
+pub not-false : {b : Bool} → not b ≡ false → b ≡ true
+not-false {b = true} h = refl
+not-false {b = false} h = absurd (false≢true (sym h))
 
 first-is : (n : ℕ) (p : ℕ → Bool) {b c : Bool} → ltb (firstOf n p) n ≡ b → p n ≡ c → firstOf (suc n) p ≡ cond b (firstOf n p) (cond c n (suc n))
 unfolding firstOf

@@ -25,4 +25,5 @@ pub mod Entries
 pub mod GrowsLaws
 pub mod Describing
 -- The lowest number first.
+pub mod Placed
 pub mod Lowest

@@ -1,6 +1,7 @@
--- THE LOWEST NUMBER FIRST: a parameter's fault and a variable's are the first in the order of their rules.
+-- THE LOWEST NUMBER FIRST: the fault of a parameter, a register and a variable is the first in the order of its rules.
 -- Assumes nothing.
-use Prim.Native.Nat.{ℕ, zero, suc, _*_}
+use Prim.Native.Nat.{ℕ, zero, suc, _*_, _≤_, _<_}
+use native.Mathlib.Omega.{arith}
 use mathlib.Core.Path.{_≡_, refl, sym, ap, _∙_}
 use mathlib.Core.Bool.{Bool, true, false, _&&_, _||_, not, cond}
 use mathlib.Core.Logic.{_⊎_, inl, inr}
@@ -11,17 +12,21 @@ use borrow.Author.Tests.{eqb-true}
 use Rattle.token.specs.Kind.{pick}
 use Rattle.syntax.specs.Parameter.{ParameterRead}
 use Rattle.syntax.specs.Variable.{VariableRead}
-use Rattle.tables.specs.Rules.{rangesFit, parameterFault, partMaps, typeFits, volatileFits, ownFault, mappedBefore, triggerShared, variableFault}
-use Rattle.tables.specs.Tables.{countOf, parameterWidth, variablePartOf}
+use Rattle.tables.specs.Rules.{rangesFit, parameterFault, placeTaken, registerFault, partMaps, typeFits, volatileFits, ownFault, mappedBefore, triggerShared, variableFault}
+use Rattle.tables.specs.Tables.{countOf, parameterWidth, registerWidth, variablePartOf}
 use Rattle.rules.specs.declared.fault.Fault.{Fault}
-use Rattle.rules.specs.Fault.{noFault, faultIf, isFault, orElse}
-use Rattle.rules.specs.State.{State, stopped, withParameters}
+use Rattle.rules.specs.Fault.{noFault, faultIf, only, isFault, orElse}
+use Rattle.rules.specs.State.{State, stopped, withParameters, withRegisters}
 use Rattle.rules.specs.Names.{nameOf, isNothing, isDeclared, declaredBefore}
 use Rattle.rules.specs.Parameter.{parameterEntry, addedParameter, judgeParameter}
 use Rattle.rules.specs.Words.{appended}
+use Rattle.rules.specs.Register.{isPaired, masksKept, unknownPort, badOffset, registerEntry, registerWritten, addedRegister, judgeRegister}
+use Rattle.syntax.specs.declared.register.Register.{Register}
 use Rattle.rules.specs.Lists.{unknownIn, pieceNamed}
 use Rattle.rules.specs.Variable.{badBehaviours, lowest, listOf, variablesWith, nameFault, earlyFault, lateNumber, judgeVariable}
-use Rattle.loader.specs.Order.{rule, firstOfRules, parameterRules, variableRules}
+use Rattle.rules.proofs.Growing.{Growing}
+use Rattle.loader.specs.Order.{rule, firstOfRules, parameterRules, isUnknown, isMisplaced, registerRules, variableRules}
+use Rattle.loader.proofs.Placed.{entry-placed}
 
 -- ---- numbers of faults
 or-number : (f g : Fault) → orElse f g .number ≡ cond (isFault f) (f .number) (g .number)
@@ -74,6 +79,82 @@ parameter-lowest text s d =
     let i = countOf (s .parameters) in
     let a = isDeclared text s (nameOf text (d .parameter .place) (d .parameter .length)) in
     six-first a (d .parameter .place) s (addedParameter s d) ∙ parameter-order a (rangesFit ps i) (eqb (parameterWidth ps i) 8)
+
+-- ---- a register
+picked-fault : (b : Bool) (x y : State) → pick b x y .fault .number ≡ cond b (x .fault .number) (y .fault .number)
+picked-fault true x y = refl
+picked-fault false x y = refl
+
+abbrev written : (a u o p : Bool) → ℕ
+written a u o p = cond a 6 (cond u 7 (cond o 8 (cond p 9 0)))
+
+written-order : (a u t w o v p : Bool) (i j k l m n : ℕ)
+    → orElse (faultIf a 6 i) (orElse (faultIf u 7 j) (orElse (only t (faultIf w 7 k)) (orElse (faultIf o 8 l) (orElse (only t (faultIf v 8 m)) (faultIf p 9 n))))) .number
+    ≡ written a (u || (t && w)) (o || (t && v)) p
+unfolding orElse faultIf only noFault
+written-order true u t w o v p i j k l m n = refl
+written-order false true t w o v p i j k l m n = refl
+written-order false false true true o v p i j k l m n = refl
+written-order false false true false true v p i j k l m n = refl
+written-order false false true false false true p i j k l m n = refl
+written-order false false true false false false true i j k l m n = refl
+written-order false false true false false false false i j k l m n = refl
+written-order false false false w true v p i j k l m n = refl
+written-order false false false w false v true i j k l m n = refl
+written-order false false false w false v false i j k l m n = refl
+
+register-order : (a u o p x y : Bool) → cond (not (eqb (written a u o p) 0)) (written a u o p) (cond x 10 (cond y 0 12))
+    ≡ firstOfRules (rule a 6 ∷ rule u 7 ∷ rule o 8 ∷ rule p 9 ∷ rule x 10 ∷ rule (not y) 12 ∷ [])
+unfolding firstOfRules
+register-order true u o p x y = refl
+register-order false true o p x y = refl
+register-order false false true p x y = refl
+register-order false false false true x y = refl
+register-order false false false false true y = refl
+register-order false false false false false true = refl
+register-order false false false false false false = refl
+
+-- what comes after counts only where nothing is broken before
+after-none : (n a b : ℕ) → (n ≡ 0 → a ≡ b) → cond (not (eqb n 0)) n a ≡ cond (not (eqb n 0)) n b
+after-none n a b h = go (eqb n 0) refl
+  where
+    go : (c : Bool) → eqb n 0 ≡ c → cond (not (eqb n 0)) n a ≡ cond (not (eqb n 0)) n b
+    go true e = ap (λ (k : ℕ). cond (not (eqb n 0)) n k) (h (eqb-true n 0 e))
+    go false e = rw e
+
+-- in tables that grew without a fault, as they do all along a text (`reached-reading`), with room for one more
+module _ (text : List ℕ) {parameters registers variables : ℕ} (s : State) (r : Register) (grown : Growing parameters registers variables s) (few : parameters ≤ 16) (room : registers < 64) where
+  abbrev rs : List ℕ
+  rs = appended 15 (s .registers) (registerEntry text (s .parameters) r)
+
+  abbrev i : ℕ
+  i = countOf (s .registers)
+
+  written-is : registerWritten text s r .number
+      ≡ written (isDeclared text s (nameOf text (r .place) (r .length))) (isUnknown text s (r .first) || (r .two && isUnknown text s (r .second)))
+      (isMisplaced text s (r .first) || (r .two && isMisplaced text s (r .second))) (not (isPaired r && masksKept r))
+  unfolding registerWritten declaredBefore unknownPort badOffset isUnknown isMisplaced
+  written-is =
+      written-order (isDeclared text s (nameOf text (r .place) (r .length))) (isUnknown text s (r .first)) (r .two) (isUnknown text s (r .second)) (isMisplaced text s (r .first))
+      (isMisplaced text s (r .second)) (not (isPaired r && masksKept r)) _ _ _ _ _ _
+
+  -- 8 of the entry is never broken where 8 as written is not
+  placed-is : registerWritten text s r .number ≡ 0 → registerFault (s .parameters) rs i ≡ cond (placeTaken rs 0 i || placeTaken rs 1 i) 10 (cond (eqb (registerWidth rs i) 8) 0 12)
+  unfolding registerFault
+  placed-is none =
+      rw (entry-placed text s r none (grown .so-far .parameters) (omega (arith, grown .parameters-counted)) (omega (arith, grown .registers-counted, grown .registers-long)))
+
+  judged-register : judgeRegister text s r .fault .number ≡ cond (isFault (registerWritten text s r)) (registerWritten text s r .number) (registerFault (s .parameters) rs i)
+  unfolding judgeRegister stopped addedRegister withRegisters
+  judged-register = picked-fault (isFault (registerWritten text s r)) (stopped s (registerWritten text s r)) (addedRegister text s r)
+
+  pub register-lowest : judgeRegister text s r .fault .number ≡ firstOfRules (registerRules text s r)
+  unfolding isFault registerRules
+  register-lowest =
+      judged-register ∙ after-none (registerWritten text s r .number) _ _ placed-is
+      ∙ rw written-is
+      (register-order (isDeclared text s (nameOf text (r .place) (r .length))) (isUnknown text s (r .first) || (r .two && isUnknown text s (r .second)))
+      (isMisplaced text s (r .first) || (r .two && isMisplaced text s (r .second))) (not (isPaired r && masksKept r)) (placeTaken rs 0 i || placeTaken rs 1 i) (eqb (registerWidth rs i) 8))
 
 -- ---- a variable
 abbrev early : (a u w p : Bool) → ℕ
@@ -157,10 +238,6 @@ module _ (text : List ℕ) (s : State) (it : VariableRead) where
       go : (b : Bool) → eqb n 0 ≡ b → faultIf (not (eqb n 0)) n place .number ≡ n
       go true e = rw e (sym (eqb-true n 0 e))
       go false e = rw e
-
-  picked-fault : (b : Bool) (x y : State) → pick b x y .fault .number ≡ cond b (x .fault .number) (y .fault .number)
-  picked-fault true x y = refl
-  picked-fault false x y = refl
 
   judged-is : judgeVariable text s it .fault .number ≡ cond (eqb (earlyFault text s it .number) 0) (lateNumber text s it) (earlyFault text s it .number)
   unfolding judgeVariable

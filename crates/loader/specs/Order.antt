@@ -1,18 +1,21 @@
--- "Declaration by declaration, lowest number first": the rules of a parameter and of a variable in their order, each with its test.
+-- "Declaration by declaration, lowest number first": the rules of a parameter, a register and a variable in their order, each with its test.
 -- `proofs/Lowest.antt` shows that judging names the first that is broken.
 use Prim.Native.Nat.{ℕ}
 use mathlib.Core.Bool.{Bool, _&&_, _||_, not, cond}
 use mathlib.Core.List.{List, [], _∷_}
 use lib.Dec.{eqb}
+use Rattle.syntax.specs.declared.register.Port.{Port}
+use Rattle.syntax.specs.declared.register.Register.{Register}
 use Rattle.syntax.specs.Parameter.{ParameterRead}
 use Rattle.syntax.specs.Variable.{VariableRead}
-use Rattle.tables.specs.Tables.{countOf, parameterWidth, variablePartOf}
-use Rattle.tables.specs.Rules.{rangesFit, partMaps, typeFits, volatileFits, mappedBefore, triggerShared}
+use Rattle.tables.specs.Tables.{countOf, parameterWidth, registerWidth, variablePartOf}
+use Rattle.tables.specs.Rules.{rangesFit, offsetIn, placeTaken, partMaps, typeFits, volatileFits, mappedBefore, triggerShared}
 use Rattle.rules.specs.Fault.{isFault}
 use Rattle.rules.specs.State.{State}
-use Rattle.rules.specs.Names.{nameOf, isDeclared}
+use Rattle.rules.specs.Names.{nameOf, isNothing, indexOf, isDeclared}
 use Rattle.rules.specs.Words.{appended}
 use Rattle.rules.specs.Parameter.{parameterEntry}
+use Rattle.rules.specs.Register.{isNatural, naturalOf, isPaired, masksKept, portFound, registerEntry}
 use Rattle.rules.specs.Lists.{unknownIn}
 use Rattle.rules.specs.Variable.{badBehaviours, listOf, variablesWith}
 
@@ -38,6 +41,25 @@ module _ (text : List ℕ) (s : State) where
       rule (isDeclared text s (nameOf text (d .parameter .place) (d .parameter .length))) 6 ∷
       rule (not (rangesFit ps i)) 8 ∷
       rule (not (eqb (parameterWidth ps i) 8)) 12 ∷ []
+
+  -- a port's name is no parameter's; its offset is bad, or not in the parameter's set
+  unfoldable pub isUnknown : Port → Bool
+  isUnknown p = isNothing (portFound text (s .parameters) p)
+
+  unfoldable pub isMisplaced : Port → Bool
+  isMisplaced p = not (isNatural (p .worth) && offsetIn (s .parameters) (indexOf (portFound text (s .parameters) p)) (naturalOf (p .worth)))
+
+  -- a register; `rs` are the registers with its entry, number `i`
+  unfoldable pub registerRules : Register → List Rule
+  registerRules r =
+      let rs : List ℕ = appended 15 (s .registers) (registerEntry text (s .parameters) r) in
+      let i : ℕ = countOf (s .registers) in
+      rule (isDeclared text s (nameOf text (r .place) (r .length))) 6 ∷
+      rule (isUnknown (r .first) || (r .two && isUnknown (r .second))) 7 ∷
+      rule (isMisplaced (r .first) || (r .two && isMisplaced (r .second))) 8 ∷
+      rule (not (isPaired r && masksKept r)) 9 ∷
+      rule (placeTaken rs 0 i || placeTaken rs 1 i) 10 ∷
+      rule (not (eqb (registerWidth rs i) 8)) 12 ∷ []
 
   -- a variable; `vs` are the variables with its entry, number `v`
   unfoldable pub variableRules : VariableRead → List Rule
