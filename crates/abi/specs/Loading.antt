@@ -2,24 +2,25 @@
 -- Assumes nothing.
 use Prim.Native.Nat.{ℕ, _^_, _<_}
 use mathlib.Core.Path.{_≡_}
-use mathlib.Core.List.{List, [], _∷_}
+use mathlib.Core.List.{List, [], _∷_, _++_}
+use mathlib.Core.Option.{Option, none, some}
 use lib.IntN.{ℤ, pos, negsuc}
 use Rattle.rules.specs.declared.names.Found.{Found}
 use Rattle.rules.specs.declared.names.Found.the-variants.{At, Nothing}
 use Rattle.loader.specs.declared.whole.Verdict.{Verdict}
-use Rattle.loader.specs.declared.whole.Verdict.the-variants.{Accepted, Refused}
-use Rattle.loader.specs.Load.{Loaded}
-use Rattle.abi.specs.Words.{written}
+use Rattle.loader.specs.Load.{Loaded, refusalOf, valuesOf}
+use Rattle.abi.specs.Words.{written, orZero}
 
--- 0, a refusal's number and its place; or 1 and the counts of parameters, registers and variables
+-- 0, a refusal's number and its place, and 0; or 1 and the counts of parameters, registers and variables
+abbrev pub toldBy : Option ℕ → List ℕ → List ℕ
+toldBy (some number) values = 0 ∷ values ++ 0 ∷ []
+toldBy none values = 1 ∷ values
+
 abbrev pub verdictWords : Verdict → List ℕ
-verdictWords (Refused number place) = 0 ∷ number ∷ place ∷ 0 ∷ []
-verdictWords (Accepted parameters registers variables) = 1 ∷ parameters ∷ registers ∷ variables ∷ []
+verdictWords verdict = toldBy (refusalOf verdict) (valuesOf verdict)
 
--- the refusal's number, and 0 where the text is accepted
 abbrev pub verdictNumber : Verdict → ℕ
-verdictNumber (Refused number place) = number
-verdictNumber (Accepted parameters registers variables) = 0
+verdictNumber verdict = orZero (refusalOf verdict)
 
 -- the verdict, told in lent words
 pub record ToldVerdict (verdict : Verdict) (answer after : List ℕ) (number : ℕ) : Type 0 where

@@ -3,6 +3,7 @@
 use Prim.Native.Nat.{ℕ, _^_}
 use mathlib.Core.Bool.{cond}
 use mathlib.Core.List.{List, [], _∷_}
+use mathlib.Core.Option.{Option, none, some}
 use lib.Dec.{eqb, ltb}
 use lib.IntN.{ℤ, pos}
 use lib.ListN.{length, getD}
@@ -11,6 +12,7 @@ use Rattle.station.specs.declared.Operation.{Operation}
 use Rattle.station.specs.declared.Operation.the-variants.{Idle, Reading, Writing}
 use Rattle.station.specs.declared.Answer.{Answer}
 use Rattle.station.specs.declared.Answer.the-variants.{Refused, Opened, Offer as Offered, Done, Abandoned as Ended}
+use Rattle.station.specs.Answers.{refusalOf}
 
 -- words written from a list's front on; those that it has no room for are lost, and what lies behind them stays
 unfoldable pub written : {A : Type 0} → List A → List A → List A
@@ -48,10 +50,10 @@ answerWords (Offered access) = pos 2 ∷ pos (partNo (access .direction)) ∷ po
 answerWords (Done value accesses) = pos 3 ∷ value ∷ pos accesses ∷ pos 0 ∷ pos 0 ∷ []
 answerWords Ended = pos 4 ∷ pos 0 ∷ pos 0 ∷ pos 0 ∷ pos 0 ∷ []
 
--- the refusal's number, and 0 for every other answer
+-- the number that document 01 gives a refusal, and 0 where there is none
+abbrev pub orZero : Option ℕ → ℕ
+orZero none = 0
+orZero (some number) = number
+
 abbrev pub refusalNumber : Answer → ℕ
-refusalNumber (Refused number) = number
-refusalNumber Opened = 0
-refusalNumber (Offered access) = 0
-refusalNumber (Done value accesses) = 0
-refusalNumber Ended = 0
+refusalNumber answer = orZero (refusalOf answer)
