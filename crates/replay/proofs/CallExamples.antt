@@ -1,0 +1,41 @@
+-- Lines and the calls that they are, computed. Assumes nothing.
+use mathlib.Core.List.{List, [], _∷_, map}
+use mathlib.Core.Path.{_≡_, refl}
+use Prim.Native.Nat.{ℕ, _-_, _^_}
+use lib.IntN.{negsuc}
+use Rattle.token.specs.Bytes.{bytes, same, runFrom, begins, within}
+use Rattle.token.specs.Number.{digitOf, isDigit}
+use Rattle.script.specs.Words.{testOf, wordOf, restOf, ahead, wordsUpTo, wordsOf}
+use Rattle.script.specs.Numbers.{figuresFrom, figures, numberOf, natural, negated, valueOf}
+use Rattle.station.specs.declared.Operation.the-variants.{Reading}
+use Rattle.replay.specs.declared.call.Request.the-variants.{Open, Write}
+use Rattle.replay.specs.declared.call.Call.{Call}
+use Rattle.replay.specs.declared.call.Call.the-variants.{Nothing, Station, Lookup, LendMarks, Hold, Unknown}
+use Rattle.replay.specs.Fields.{isNone, onlyNumber, onlyValue, belowOf, isSome, countFrom}
+use Rattle.replay.specs.Calls.{chosen, bareOf, openOf, lookupOf, readOf, writing, writeOf, confirming, isAll, amountOf, lent, lendOf, inHand, held, heldOf, holding, holdOf, callBy, isSkipped, callOf}
+
+abbrev asked : List ℕ → Call
+asked line = callOf (wordsOf line)
+
+pub lines :
+    map asked
+    (bytes "open 0x0A 255"
+    ∷ bytes "  write\t0  -2 "
+    ∷ bytes "hold read 1 0 0xFF"
+    ∷ bytes "lend marks all"
+    ∷ bytes "lookup"
+    ∷ bytes "; a comment"
+    ∷ bytes "read 0 0"
+    ∷ bytes "confirm 256"
+    ∷ [])
+    ≡ Station (Open 2)
+    ∷ Station (Write 0 (negsuc 1))
+    ∷ Hold (Reading 1 0 255)
+    ∷ LendMarks (2 ^ 64 - 1)
+    ∷ Lookup
+    ∷ Nothing
+    ∷ Unknown
+    ∷ Unknown
+    ∷ []
+unfolding same runFrom begins within digitOf isDigit testOf wordOf restOf ahead wordsUpTo wordsOf figuresFrom figures numberOf natural negated valueOf isNone onlyNumber onlyValue belowOf isSome countFrom chosen bareOf openOf lookupOf readOf writing writeOf confirming isAll amountOf lent lendOf inHand held heldOf holding holdOf callBy isSkipped callOf
+lines = refl
