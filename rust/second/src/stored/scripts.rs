@@ -254,6 +254,28 @@ pub fn scripts() -> Vec<Script> {
              state -> record 16 marks 0 0 operation idle",
         ),
         script(
+            "a-refused-begin-clears-no-mark",
+            NIBBLES,
+            "open 0xA5 -> opened
+             write 0 1 -> offer write 0 0 0x15
+             abandon -> abandoned
+             write 0 16 -> refused 27
+             read 0 -> refused 28
+             state -> record A5 marks 1 0 operation idle",
+        ),
+        script(
+            "the-byte-offered-last-is-not-recorded",
+            BACK,
+            "open 0 0 -> opened
+             write 0 0x155 -> offer write 0 2 0x93
+             confirm 0 -> offer write 0 1 0x0A
+             abandon -> abandoned
+             state -> record 00 93 marks 1 0 operation idle
+             write 1 15 -> offer write 0 1 0xF0
+             confirm 0 -> done 15 1
+             read 0 -> refused 28",
+        ),
+        script(
             "reading-leaves-the-record",
             NIBBLES,
             "open 0xA5 -> opened
