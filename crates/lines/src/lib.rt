@@ -1,5 +1,5 @@
 // The line that the verdict program writes on a text, as bytes in a lent buffer.
-mod put;
+pub mod put;
 
 use loader::Verdict;
 use put::put_bytes;
@@ -39,7 +39,7 @@ fn verdict_line(out: &mut [u8], verdict: Verdict) -> usize
 }
 
 // The verdict on a text, by tables of its own. They are of their stated sizes, so refusal 1 is never given.
-fn verdict_on(text: &[u8]) -> Verdict
+pub fn verdict_on(text: &[u8]) -> Verdict
     ensures { λ r. ⌜ r ≡ verdictOn (now (text .entry)) ⌝ }
 {
     let mut parameters = [0u32; 577];

@@ -1,0 +1,54 @@
+-- `details::holders::same_holders` meets its contract.
+use borrow.Author.Needs.{needs}
+use Prim.Native.Nat.{_-_, _≤_}
+use native.Mathlib.Omega.{arith}
+use mathlib.Core.Path.{_≡_, sym, ap₂}
+use lib.Dec.{eqb}
+use Rattle.tables.specs.Every.{every}
+use Rattle.tables.proofs.Laws.{every-none, gathers, gathered}
+use Rattle.details.specs.Holders.{holderOf, sameHolders}
+use Rattle.tables.specs.declared.Part.the-variants.{Read, Write}
+use Rattle.details.proofs.holders.same_holders.Statement.{statement}
+use Rattle.details.proofs.holders.same_holders.Tie as tie
+
+abbrev Inv-loop : tie.InvT-loop
+Inv-loop variables i ok₀ b₀ ok b = (b ≤ 8) × (ok ≡ every b (λ k. eqb (holderOf variables Read i k) (holderOf variables Write i k)))
+
+abbrev μ-loop : tie.MeasureT-loop
+μ-loop variables i ok₀ b₀ ok b = 8 - b
+
+loop-holds : tie.Need-loop-holds Inv-loop μ-loop
+loop-holds c = (omega arith, sym (every-none _))
+
+holder-of-requires : tie.Need-holder-of-requires Inv-loop μ-loop
+holder-of-requires c κs = search needs
+
+holder-of-requires-2 : tie.Need-holder-of-requires-2 Inv-loop μ-loop
+holder-of-requires-2 c κs = search needs
+
+add-b : tie.Need-add-b Inv-loop μ-loop
+add-b c = search needs
+
+loop-less : tie.Need-loop-less Inv-loop μ-loop
+loop-less c = search needs
+
+loop-again : tie.Need-loop-again Inv-loop μ-loop
+loop-again c = (omega arith, gathers _ _ (c .before .before .before .loop .inv .1) (ap₂ eqb (c .before .holder-of .ensures) (c .holder-of2 .ensures)))
+
+returns : tie.Need-returns Inv-loop μ-loop
+unfolding sameHolders
+returns c = gathered _ (c .before .loop .inv .0) (c .loop-test .left) (c .before .loop .inv .1)
+
+pub same-holders-spec : {M : Type 1} → statement M
+same-holders-spec =
+    tie.close
+    (tie.spec
+    Inv-loop
+    μ-loop
+    loop-holds
+    holder-of-requires
+    holder-of-requires-2
+    add-b
+    loop-less
+    loop-again
+    returns)

@@ -1,0 +1,144 @@
+// Refusals 11 to 16: bits, by the names of their registers and variables.
+use crate::parts::last;
+use crate::parts::show_bit;
+use crate::write::number;
+use crate::write::purpose;
+use crate::write::quoted;
+use crate::write::write;
+use details::broken::first_bare;
+use details::broken::first_pulled;
+use details::broken::first_taken;
+use details::entries::parameter_width;
+use details::entries::register_name;
+use details::entries::register_named_at;
+use details::entries::register_place;
+use details::entries::register_width;
+use details::entries::variable_name;
+use details::entries::variable_part;
+use details::entries::variable_place;
+use details::entries::variable_width;
+use details::holders::beside_below;
+use details::holders::holder_below;
+use details::holders::pulls_trigger;
+use rules::words::narrow;
+use tables::Part;
+use tables::pieces::bit_count;
+use tables::words::word;
+
+// 14: bit 4 of `r` is mapped already by `v` for reading
+fn show_taken(text: &[u8], registers: &[u32], variables: &[u32], part: Part) {
+    let v = last(variables);
+    let bit = first_taken(variables, v, part);
+    if bit < 2048 {
+        show_bit(text, registers, bit);
+        write(b" is mapped already by ");
+        quoted(variable_name(text, variables, holder_below(variables, v, part, bit)));
+        purpose(part);
+        write(b"\n");
+    }
+}
+
+// 15: `r` holds bits of `v`, a trigger, and of `w` for reading
+fn show_pulled(text: &[u8], registers: &[u32], variables: &[u32], part: Part) {
+    let v = last(variables);
+    let register = first_pulled(variables, v, part);
+    if register < 64 {
+        let u = beside_below(variables, v, part, register);
+        quoted(register_name(text, registers, narrow(register)));
+        write(b" holds bits of ");
+        show_puller(text, variables, u, part);
+        write(b" and of ");
+        show_puller(text, variables, v, part);
+        purpose(part);
+        write(b"\n");
+    }
+}
+
+fn show_puller(text: &[u8], variables: &[u32], v: u32, part: Part) {
+    quoted(variable_name(text, variables, v));
+    if pulls_trigger(variables, part, v) {
+        write(b" (a trigger)");
+    }
+}
+
+// 16: bit 0 of `r` is mapped by no variable for reading
+fn show_bare(text: &[u8], registers: &[u32], variables: &[u32], i: u32, part: Part) {
+    let b = first_bare(registers, variables, i, part);
+    if b < 8 {
+        show_bit(text, registers, 32 * (i as usize) + b);
+        write(b" is mapped by no variable");
+        purpose(part);
+        write(b"\n");
+    }
+}
+
+fn show_width(width: usize) {
+    write(b"its width is ");
+    number(width);
+    write(b", and only 8 is allowed\n");
+}
+
+// its read part has 12 bits
+fn show_bits_of(variables: &[u32], v: u32, part: Part, words: &[u8]) {
+    let at = variable_part(v, part);
+    if at < 4294967296 {
+        if word(variables, at) == 1 {
+            write(words);
+            number(bit_count(variables, at));
+        }
+    }
+}
+
+fn show_type(variables: &[u32], v: u32) {
+    write(b"bits of its type: ");
+    number(variable_width(variables, v));
+    show_bits_of(variables, v, Part::Read, b"; of its read part: ");
+    show_bits_of(variables, v, Part::Write, b"; of its write part: ");
+    write(b"\n");
+}
+
+// 12: a variable, a register or a parameter, whichever is declared there.
+fn show_widths(parameters: &[u32], registers: &[u32], variables: &[u32], place: usize) {
+    let v = last(variables);
+    let i = last(registers);
+    if variable_place(variables, v) == place {
+        show_type(variables, v);
+    } else if register_place(registers, i) == place {
+        show_width(register_width(registers, i));
+    } else {
+        show_width(parameter_width(parameters, last(parameters)));
+    }
+}
+
+fn show_late(text: &[u8], registers: &[u32], variables: &[u32], rule: u32, place: usize) {
+    if rule == 14 {
+        show_taken(text, registers, variables, Part::Read);
+        show_taken(text, registers, variables, Part::Write);
+    } else if rule == 15 {
+        show_pulled(text, registers, variables, Part::Read);
+        show_pulled(text, registers, variables, Part::Write);
+    } else {
+        let i = register_named_at(registers, place);
+        show_bare(text, registers, variables, i, Part::Read);
+        show_bare(text, registers, variables, i, Part::Write);
+    }
+}
+
+pub fn show_lists(
+    text: &[u8],
+    parameters: &[u32],
+    registers: &[u32],
+    variables: &[u32],
+    rule: u32,
+    place: usize,
+) {
+    if rule == 11 {
+        crate::pieces::show_pieces(text, registers, variables, place);
+    } else if rule == 12 {
+        show_widths(parameters, registers, variables, place);
+    } else if rule == 13 {
+        crate::attributes::show_attributes(text, variables, place);
+    } else {
+        show_late(text, registers, variables, rule, place);
+    }
+}

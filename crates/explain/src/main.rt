@@ -1,0 +1,63 @@
+// A description, explained to the person who writes it. A refused one: where, which rule in plain words, what breaks it, and the line with a caret. An accepted
+// one: a map of its registers and variables. It reads as many bytes as tell a description that is too long.
+mod attributes;
+mod expected;
+mod lists;
+mod map;
+mod names;
+mod parts;
+mod pieces;
+mod ports;
+mod reading;
+mod row;
+mod rule;
+mod source;
+mod summary;
+mod why;
+mod write;
+
+use loader::Verdict;
+
+// The tables that loading leaves empty where it refuses are filled again up to the broken rule.
+fn explain(text: &[u8], verdict: Verdict) {
+    let mut parameters = [0u32; 577];
+    let mut registers = [0u32; 961];
+    let mut variables = [0u32; 7553];
+    let judging = details::judged::judge_all(text, &mut parameters, &mut registers, &mut variables);
+    match verdict {
+        Verdict::Accepted(_, _, _) => {
+            map::show_map(text, judging, &parameters, &registers, &variables)
+        }
+        Verdict::Refused(rule, place) => {
+            source::show_position(text, place);
+            rule::show_rule(rule);
+            why::show_why(
+                text,
+                judging,
+                &parameters,
+                &registers,
+                &variables,
+                rule,
+                place,
+            );
+            source::show_source(text, place);
+        }
+    }
+}
+
+fn tell(text: &[u8]) {
+    let mut line = [0u8; 80];
+    let end = lines::line_on(text, &mut line);
+    io::write_all(1, &line[..end]);
+    if 8192 < text.len() {
+        rule::show_rule(2);
+        return;
+    }
+    explain(text, lines::verdict_on(text));
+}
+
+fn main() {
+    let mut buffer = [0u8; 8193];
+    let n = io::read_full(0, &mut buffer);
+    tell(&buffer[..n]);
+}

@@ -1,0 +1,147 @@
+// Refusals 8, 9 and 10: offsets, ports and masks, and places that are taken.
+use crate::parts::has_part;
+use crate::parts::last;
+use crate::parts::show_place;
+use crate::parts::show_range;
+use crate::parts::show_ranges;
+use crate::write::number;
+use crate::write::purpose;
+use crate::write::quoted;
+use crate::write::write;
+use details::broken::first_misfit;
+use details::broken::served_before;
+use details::entries::parameter_name;
+use details::entries::register_name;
+use details::places::opening;
+use expression::Worth;
+use rules::names::find;
+use rules::names::index_of;
+use rules::names::name_of;
+use rules::words::narrow;
+use syntax::Masks;
+use syntax::Port;
+use syntax::Register;
+use syntax::Step;
+use tables::Part;
+use tables::parameters::offset_in;
+
+fn show_misfit(text: &[u8], parameters: &[u32]) {
+    let i = last(parameters);
+    write(b"the range ");
+    show_range(parameters, i, first_misfit(parameters, i));
+    write(b" of ");
+    quoted(parameter_name(text, parameters, i));
+    write(b" goes down, or past 255\n");
+}
+
+// The parameter that a port names.
+fn port_parameter(text: &[u8], parameters: &[u32], port: Port) -> u32 {
+    let name = name_of(text, port.place, port.length);
+    narrow(index_of(find(text, parameters, 36, name)))
+}
+
+// An offset that is not below 0, as a number of the tables.
+fn natural(n: i32) -> usize {
+    if n < 0 { 0 } else { n as usize }
+}
+
+fn is_placed(text: &[u8], parameters: &[u32], port: Port) -> bool {
+    let worth = port.worth;
+    match worth {
+        Worth::Good(n) => {
+            let i = port_parameter(text, parameters, port);
+            (0 <= n) & offset_in(parameters, i as usize, natural(n))
+        }
+        Worth::Bad => false,
+    }
+}
+
+fn show_worth(worth: Worth) {
+    match worth {
+        Worth::Good(n) => {
+            if n < 0 {
+                write(b"the offset is below 0");
+            } else {
+                write(b"the offset is ");
+                number(natural(n));
+            }
+        }
+        Worth::Bad => write(b"the offset divides by zero, or leaves the range of 32 bits"),
+    }
+}
+
+// the offset is 4; `base` has the offsets 0..3
+fn show_offset(text: &[u8], parameters: &[u32], port: Port) {
+    let i = port_parameter(text, parameters, port);
+    let worth = port.worth;
+    show_worth(worth);
+    write(b"; ");
+    quoted(parameter_name(text, parameters, i));
+    write(b" has the offsets ");
+    show_ranges(parameters, i);
+    write(b"\n");
+}
+
+fn show_offsets(text: &[u8], parameters: &[u32], register: Register) {
+    let first = register.first;
+    let second = register.second;
+    if is_placed(text, parameters, first) {
+        show_offset(text, parameters, second);
+    } else {
+        show_offset(text, parameters, first);
+    }
+}
+
+fn show_masks(masks: Masks) {
+    if masks.odd {
+        write(b"a mask has another number of elements than 8\n");
+    } else if 1 < masks.bare {
+        write(b"two masks without `read` or `write`\n");
+    } else {
+        write(b"a part has two masks, or a mask is for a part that the register has not\n");
+    }
+}
+
+fn show_pairing(register: Register) {
+    let first = register.first;
+    let second = register.second;
+    let paired = ((first.mark == 1) & (second.mark == 2))
+        | ((first.mark == 2) & (second.mark == 1));
+    if register.two & !paired {
+        write(b"of two ports, one is for `read` and the other for `write`\n");
+    } else {
+        let masks = register.masks;
+        show_masks(masks);
+    }
+}
+
+// base @ 0 serves `high` already for reading
+fn show_served(text: &[u8], parameters: &[u32], registers: &[u32], part: Part) {
+    let i = last(registers);
+    let j = served_before(registers, i, part);
+    if has_part(registers, i, part) & (j < i) {
+        show_place(text, parameters, registers, i, part);
+        write(b" serves ");
+        quoted(register_name(text, registers, j));
+        write(b" already");
+        purpose(part);
+        write(b"\n");
+    }
+}
+
+pub fn show_ports(text: &[u8], parameters: &[u32], registers: &[u32], rule: u32, place: usize) {
+    let open = opening(text, place);
+    if rule == 10 {
+        show_served(text, parameters, registers, Part::Read);
+        show_served(text, parameters, registers, Part::Write);
+    } else if open < text.len() {
+        let register = syntax::register_after(text, Step::At(open));
+        if rule == 8 {
+            show_offsets(text, parameters, register);
+        } else {
+            show_pairing(register);
+        }
+    } else {
+        show_misfit(text, parameters);
+    }
+}

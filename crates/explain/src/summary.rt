@@ -1,0 +1,203 @@
+// The variables: type, bits and accesses of each part, and what is special about it.
+use crate::parts::count;
+use crate::parts::show_place;
+use crate::write::column;
+use crate::write::fill;
+use crate::write::number;
+use crate::write::times;
+use crate::write::write;
+use details::entries::piece_count;
+use details::entries::piece_of;
+use details::entries::register_name;
+use details::entries::same_parts;
+use details::entries::variable_kind;
+use details::entries::variable_name;
+use details::entries::variable_part;
+use details::entries::variable_volatile;
+use details::entries::variable_width;
+use details::holders::mentioned_before;
+use details::holders::pulls_trigger;
+use rules::lists::choose;
+use rules::words::narrow;
+use tables::Part;
+use tables::Piece;
+use tables::words::word;
+
+fn show_type(variables: &[u32], v: u32) {
+    let kind = variable_kind(variables, v);
+    if kind == 2 {
+        write(b"bool");
+        return;
+    }
+    if kind == 1 {
+        write(b"signed ");
+    }
+    write(b"int(");
+    number(variable_width(variables, v));
+    write(b")");
+}
+
+// high[3..0], or high where it is whole
+fn show_piece(text: &[u8], registers: &[u32], piece: Piece) {
+    write(register_name(text, registers, narrow(piece.register)));
+    if (piece.high == 7) & (piece.low == 0) {
+        return;
+    }
+    write(b"[");
+    number(piece.high);
+    if piece.low != piece.high {
+        write(b"..");
+        number(piece.low);
+    }
+    write(b"]");
+}
+
+fn show_pieces(text: &[u8], registers: &[u32], variables: &[u32], v: u32, part: Part) {
+    let n = piece_count(variables, v, part);
+    let mut k: u32 = 0;
+    while k < n {
+        if 0 < k {
+            write(b" # ");
+        }
+        let piece = piece_of(variables, v, part, k);
+        show_piece(text, registers, piece);
+        k += 1;
+    }
+}
+
+// base @ 0, base @ 1: each register once, in order of first mention
+fn show_accesses(
+    text: &[u8],
+    parameters: &[u32],
+    registers: &[u32],
+    variables: &[u32],
+    v: u32,
+    part: Part,
+) {
+    let n = piece_count(variables, v, part);
+    let mut k: u32 = 0;
+    while k < n {
+        if !mentioned_before(variables, v, part, k) {
+            if 0 < k {
+                write(b", then ");
+            }
+            let piece = piece_of(variables, v, part, k);
+            show_place(text, parameters, registers, narrow(piece.register), part);
+        }
+        k += 1;
+    }
+}
+
+// How wide `show_type` writes.
+fn type_columns(variables: &[u32], v: u32) -> usize {
+    let kind = variable_kind(variables, v);
+    if kind == 2 {
+        return 4;
+    }
+    let short = variable_width(variables, v) < 10;
+    if kind == 1 {
+        choose(short, 13, 14)
+    } else {
+        choose(short, 6, 7)
+    }
+}
+
+// `volatile` belongs to reading.
+fn show_attributes(variables: &[u32], v: u32, part: Part, volatile: bool) {
+    let trigger = pulls_trigger(variables, part, v);
+    if volatile {
+        write(b", volatile");
+    }
+    if trigger {
+        write(b", trigger");
+    }
+}
+
+// The accesses of a long list stand under it.
+fn show_gap(variables: &[u32], v: u32, part: Part) {
+    if 1 < piece_count(variables, v, part) {
+        write(b"\n");
+        times(b" ", 37);
+    } else {
+        write(b" ");
+    }
+}
+
+// The part, its bits, its accesses and its attributes.
+fn show_part(
+    text: &[u8],
+    parameters: &[u32],
+    registers: &[u32],
+    variables: &[u32],
+    v: u32,
+    part: Part,
+    label: &[u8],
+) {
+    write(label);
+    show_pieces(text, registers, variables, v, part);
+    show_gap(variables, v, part);
+    write(b"(");
+    show_accesses(text, parameters, registers, variables, v, part);
+    write(b")");
+}
+
+fn show_read(
+    text: &[u8],
+    parameters: &[u32],
+    registers: &[u32],
+    variables: &[u32],
+    v: u32,
+    label: &[u8],
+) {
+    show_part(text, parameters, registers, variables, v, Part::Read, label);
+    show_attributes(variables, v, Part::Read, variable_volatile(variables, v));
+    write(b"\n");
+}
+
+fn show_write(text: &[u8], parameters: &[u32], registers: &[u32], variables: &[u32], v: u32) {
+    show_part(
+        text,
+        parameters,
+        registers,
+        variables,
+        v,
+        Part::Write,
+        b"  w  ",
+    );
+    show_attributes(variables, v, Part::Write, false);
+    write(b"\n");
+}
+
+fn is_present(variables: &[u32], v: u32, part: Part) -> bool {
+    word(variables, variable_part(v, part)) == 1
+}
+
+// One line where both parts are alike; the second of two starts under the first.
+fn show_parts(text: &[u8], parameters: &[u32], registers: &[u32], variables: &[u32], v: u32) {
+    if same_parts(variables, v) {
+        show_read(text, parameters, registers, variables, v, b"r w  ");
+        return;
+    }
+    let read = is_present(variables, v, Part::Read);
+    if read {
+        show_read(text, parameters, registers, variables, v, b"r    ");
+    }
+    if is_present(variables, v, Part::Write) {
+        if read {
+            times(b" ", 32);
+        }
+        show_write(text, parameters, registers, variables, v);
+    }
+}
+
+pub fn show_variables(text: &[u8], parameters: &[u32], registers: &[u32], variables: &[u32]) {
+    let n = count(variables);
+    let mut v: u32 = 0;
+    while v < n {
+        column(variable_name(text, variables, v), 16);
+        show_type(variables, v);
+        fill(type_columns(variables, v), 16);
+        show_parts(text, parameters, registers, variables, v);
+        v += 1;
+    }
+}
