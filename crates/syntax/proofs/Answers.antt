@@ -7,9 +7,6 @@ use mathlib.Core.Logic.{_↔_, inl, inr}
 use mathlib.Core.List.{List, []}
 use lib.ListN.{length}
 use mathlib.Core.Option.{Option, none, Option·none-ne-some, Option·some-injective}
-use Rattle.token.specs.declared.Token.{Token}
-use Rattle.token.specs.declared.Token.the-variants.{Name, Word, Number, Bits, Sign, End, Bad}
-use Rattle.token.specs.Kind.{refusedAs}
 use Rattle.syntax.specs.declared.reader.Step.{Step}
 use Rattle.syntax.specs.declared.reader.Step.the-variants.{At, Refused}
 use Rattle.syntax.specs.Sizes.{passedAt, NotBefore, Kept}
@@ -17,16 +14,8 @@ use Rattle.syntax.specs.Claim.{tokenNo, InLanguage, Stops, Passes, Right
 use Rattle.syntax.specs.Text.{Declaration, readingWith, listed, reading}
 use Rattle.syntax.proofs.Claims.{ByGrammar, stops-once}
 use Rattle.syntax.proofs.TextFollows.{reading-grammatical}
+use Rattle.syntax.proofs.Tally.{not-five}
 use Rattle.syntax.proofs.TallyText.{sizes-kept}
-
-not-five : (t : Token) → refusedAs t ≡ 5 → ⊥
-not-five (Name p n) e = omega arith
-not-five (Word p n) e = omega arith
-not-five (Number p v) e = omega arith
-not-five (Bits p n) e = omega arith
-not-five (Sign p s) e = omega arith
-not-five (End p) e = omega arith
-not-five (Bad p) e = omega arith
 
 module _ (text : List ℕ) where
   stops-not-five : (n p : ℕ) → Stops text n p → n ≡ 5 → ⊥

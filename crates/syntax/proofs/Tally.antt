@@ -35,6 +35,16 @@ or-true false = refl
 pub or-false : (b : Bool) → b ≡ false → (b || false) ≡ false
 or-false b e = ap (λ (c : Bool). c || false) e
 
+-- a token that cannot stand where it does is refused by 3 or 4
+pub not-five : (t : Token) → refusedAs t ≡ 5 → ⊥
+not-five (Name p n) e = omega arith
+not-five (Word p n) e = omega arith
+not-five (Number p n) e = omega arith
+not-five (Bits p n) e = omega arith
+not-five (Sign p n) e = omega arith
+not-five (End p) e = omega arith
+not-five (Bad p) e = omega arith
+
 module _ (text : List ℕ) where
   -- ---- the count from a place on
 
@@ -109,15 +119,6 @@ module _ (text : List ℕ) where
     pub refused-agrees : (c d : Tally) (number place : ℕ) → Agrees c (Refused number place) → Agrees d (Refused number place)
     unfolding Agrees
     refused-agrees c d number place a = a
-
-    not-five : (t : Token) → refusedAs t ≡ 5 → ⊥
-    not-five (Name p n) e = omega arith
-    not-five (Word p n) e = omega arith
-    not-five (Number p n) e = omega arith
-    not-five (Bits p n) e = omega arith
-    not-five (Sign p n) e = omega arith
-    not-five (End p) e = omega arith
-    not-five (Bad p) e = omega arith
 
     -- 3 or 4 at the next token
     pub agrees-unexpected : (c d : Tally) (at : ℕ) → Agrees c (At at) → Agrees d (unexpected (scanAt text at .token))
