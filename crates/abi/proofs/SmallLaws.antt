@@ -10,18 +10,18 @@ use lib.IntN.{ℤ}
 use lib.ListN.{getD}
 use mir.Syntax.{w32}
 use mir.Val.{Fits}
-use borrow.Author.Tests.{eqb-true, ltb-true}
+use borrow.Author.Tests.{eqb-true, ltb-true, not-false}
 use Rattle.tables.specs.declared.Part.{Part}
 use Rattle.tables.specs.declared.Part.the-variants.{Read as reading, Write as writing}
 use Rattle.tables.specs.View.{Tables, sound, variableCount, parameterOf, offsetOf}
 use Rattle.station.specs.declared.Operation.{Operation}
 use Rattle.station.specs.declared.Operation.the-variants.{Idle, Reading, Writing}
 use Rattle.station.specs.Calls.{State, Outcome, Test, refused, unless, isAllowed, isLast, readOn, writeOn, stepsOf, checked, opening, openingTests, beginRead, readTests, beginWrite, writeTests, confirmed, confirm, abandoned, abandon}
-use Rattle.station.proofs.Cases.{and-true, not-false-is}
 use Rattle.station.proofs.Distinct.{at-most-8}
 use Rattle.station.proofs.Refusals.{NoneHolds}
 use Rattle.station.proofs.Underway.{reading-allowed, writing-allowed}
 use Rattle.abi.specs.Told.{Small}
+use Rattle.logic.proofs.Tests.{both}
 
 -- the refusals of these tests do
 abbrev smallNumbers : List Test → Bool
@@ -32,8 +32,8 @@ unless-small : (tests : List Test) (s : State) (o : Outcome) → smallNumbers te
 unfolding unless
 unless-small [] s o numbers passed = passed tt
 unless-small (test ∷ tests) s o numbers passed =
-    let both = and-true (ltb (test .1) (2 ^ 32)) (smallNumbers tests) numbers in
-    go (test .0) refl (ltb-true _ _ (both .0)) (λ first. unless-small tests s o (both .1) (λ rest. passed (first, rest)))
+    let parts = both (ltb (test .1) (2 ^ 32)) (smallNumbers tests) numbers in
+    go (test .0) refl (ltb-true _ _ (parts .0)) (λ first. unless-small tests s o (parts .1) (λ rest. passed (first, rest)))
   where
     go : (b : Bool) → test .0 ≡ b → test .1 < 2 ^ 32 → (test .0 ≡ false → Small (unless tests s o .answer)) → Small (cond b (refused (test .1) s) (unless tests s o) .answer)
     go true e small rest = small
@@ -77,7 +77,7 @@ module _ (t : Tables) (narrow : (i : ℕ) → Fits w32 (getD (t .registers) i 0)
   pub confirm-small : (s : State) (byte : ℕ) → Small (confirm sound t s byte .answer)
   confirm-small s byte =
       unless-small (checked sound t s []) s _ refl
-      (λ passed. confirmed-small s (s .operation) byte (not-false-is _ (passed .0)) (not-false-is _ (passed .1 .1 .0)))
+      (λ passed. confirmed-small s (s .operation) byte (not-false _ (passed .0)) (not-false _ (passed .1 .1 .0)))
 
   abandoned-small : (s : State) (op : Operation) → Small (abandoned s op .answer)
   abandoned-small s Idle = omega arith

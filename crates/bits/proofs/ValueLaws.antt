@@ -1,13 +1,14 @@
 -- A value in range is carried by bits of its width, and read back from them: so two values in range with the same bits are equal. For any width.
 use Prim.Native.Nat.{ℕ, suc, _-_, _/_, _^_, _≤_, _<_}
 use mathlib.Core.Path.{_≡_, refl, ap}
-use mathlib.Core.Bool.{Bool, true, false, cond, _&&_, false≢true}
+use mathlib.Core.Bool.{Bool, true, false, cond, _&&_}
 use native.Mathlib.Omega.{arith}
 use lib.Dec.{ltb, eqb}
 use lib.IntN.{ℤ, pos, negsuc}
 use lib.Pow.{pow-pos}
 use borrow.Author.Tests.{ltb-true, ltb-false, le-ltb, lt-ltb}
 use Rattle.bits.specs.Values.{limitOf, inRange, encode, decode}
+use Rattle.logic.proofs.Tests.{both}
 
 -- the limit lies below 2 ^ w, for a signed kind at its half
 pub limit-most : (kind w : ℕ) → limitOf kind w ≤ 2 ^ w
@@ -19,10 +20,6 @@ limit-most kind w = go (eqb kind 1)
 
 signed-half : (kind w : ℕ) → eqb kind 1 ≡ true → limitOf kind w ≡ 2 ^ w / 2
 signed-half kind w e = rw e
-
-pub both : (a b : Bool) → (a && b) ≡ true → (a ≡ true) × (b ≡ true)
-both true b h = (refl, h)
-both false b h = absurd (false≢true h)
 
 pub encode-lt : (kind w : ℕ) (z : ℤ) → inRange kind w z ≡ true → encode w z < 2 ^ w
 unfolding inRange encode

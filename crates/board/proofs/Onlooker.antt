@@ -10,9 +10,9 @@ use Rattle.tables.specs.View.{Tables}
 use Rattle.station.specs.declared.Answer.{Answer}
 use Rattle.station.specs.declared.Answer.the-variants.{Refused, Opened, Offer as Offered, Done, Abandoned as Ended}
 use borrow.Author.Tests.{not-true}
-use Rattle.station.proofs.Cases.{and-true}
 use Rattle.board.specs.Board.{Cells, Event, Finished, Abandoned, Due, Gives, HalfWritten, mustRead, Asked, Nothing, ToRead, ToWrite, takenOn, closed, noted, World, Call, BeginRead, BeginWrite, Confirm, Abandon, step, after}
 use Rattle.board.specs.Stops.{lastGiven, isHalf, isBeingWritten, Settled, begins, noneBegins}
+use Rattle.logic.proofs.Tests.{both}
 
 abbrev IsHalf : Due → Type 0
 IsHalf (Gives z) = ⊥
@@ -119,9 +119,9 @@ module _ (sound : Tables → Bool) (t : Tables) (power : Cells) where
   unfolding after noneBegins
   after-settled [] w v before none-begins = record { settled = before; notes = same t power v (w .events) }
   after-settled (call ∷ calls) w v before none-begins =
-      let both = and-true (not (begins call v)) _ none-begins in
-      let one = step-settled call w v before (not-true _ (both .0)) in
-      let rest = after-settled calls (step sound t call w) v (one .settled) (both .1) in
+      let parts = both (not (begins call v)) _ none-begins in
+      let one = step-settled call w v before (not-true _ (parts .0)) in
+      let rest = after-settled calls (step sound t call w) v (one .settled) (parts .1) in
       record {
         settled = rest .settled;
         notes = record {

@@ -5,7 +5,7 @@
 use Prim.Native.Nat.{ℕ, zero, suc, _^_, _<_, _≤_, suc-le-suc, zero-le}
 use mathlib.Core.Path.{_≡_, refl, sym, ap, _∙_, subst}
 use mathlib.Core.Logic.{_⊎_, inl, inr}
-use mathlib.Core.Bool.{Bool, true, false, cond, true≢false}
+use mathlib.Core.Bool.{Bool, true, false, cond, true≢false, or-false}
 use mathlib.Core.List.{List, []}
 use mathlib.Core.Option.{Option, none, some}
 use native.Mathlib.Nat.{le-of-suc-le-suc, not-suc-le-zero}
@@ -25,7 +25,7 @@ use Rattle.station.specs.declared.Operation.the-variants.{Idle, Reading, Writin
 use Rattle.station.specs.declared.Answer.the-variants.{Opened}
 use Rattle.station.specs.Calls.{State, unless, isLong, isAllowed, onOffer, opening, registerTaken, keptOf, writtenByte}
 use Rattle.bits.proofs.BitLaws.{number-same, number-bits}
-use Rattle.station.proofs.Cases.{either, or-false, getD-among}
+use Rattle.station.proofs.Cases.{getD-among}
 use Rattle.station.proofs.ByteLaws.{byte-own}
 use Rattle.station.proofs.Registers.{same-size, same-place}
 use Rattle.station.proofs.Underway.{writing-allowed}
@@ -40,6 +40,7 @@ use Rattle.board.proofs.Steps.{Linked, InvW, step-keeps, after-keeps, r
 use Rattle.board.proofs.Onlooker.{half-is, step-settled, after-settled}
 use Rattle.board.proofs.World.{ok, rules, world-holds}
 use Rattle.board.proofs.Writes.{part-written}
+use Rattle.logic.proofs.Tests.{either}
 
 -- ── one cell ──
 

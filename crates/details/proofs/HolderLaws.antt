@@ -3,7 +3,7 @@
 use Prim.Native.Nat.{ℕ, zero, suc, _+_, _-_, _*_, _<_}
 use native.Mathlib.Omega.{arith}
 use mathlib.Core.Path.{_≡_, refl, sym, ap, ap₂, _∙_}
-use mathlib.Core.Bool.{Bool, true, false, _&&_, _||_, or-assoc}
+use mathlib.Core.Bool.{Bool, true, false, _&&_, _||_, or-assoc, or-false}
 use mathlib.Core.List.{List, [], _∷_, _++_}
 use lib.Dec.{eqb, leb, ltb}
 use lib.ListN.{getD}
@@ -72,11 +72,7 @@ has-more x f n h e = ap₂ _||_ h e ∙ sym (ap (has x) (joined-more f n) ∙ ha
 -- one register, as a list of its own
 pub has-single : (x : ℕ) {y z : ℕ} → y ≡ z → eqb x y ≡ has x (z ∷ [])
 unfolding has
-has-single x {y} {z} e = ap (eqb x) e ∙ sym (or-nothing (eqb x z))
-  where
-    or-nothing : (b : Bool) → (b || false) ≡ b
-    or-nothing true = refl
-    or-nothing false = refl
+has-single x {y} {z} e = ap (eqb x) e ∙ sym (or-false (eqb x z))
 
 -- a search among none
 pub first-zero : (n : ℕ) (p : ℕ → Bool) → n ≡ 0 → 0 ≡ firstOf n p

@@ -3,26 +3,19 @@
 use Prim.Native.Nat.{ℕ, zero, suc, _+_, _-_, _/_, _%_, _≤_, _<_}
 use native.Mathlib.Omega.{arith}
 use native.Mathlib.Numerals.{add-one}
-use native.Mathlib.Nat.{not-suc-le-zero, le-of-suc-le-suc}
 use mathlib.Core.Path.{_≡_, refl, sym, ap, _∙_, subst}
 use mathlib.Core.Bool.{Bool, true, false, _&&_}
 use mathlib.Core.List.{List, [], _∷_, _++_}
 use lib.Dec.{leb, ltb}
-use lib.ListN.{length, getD, take, drop, set, length-append, length-drop, length-set}
+use lib.ListN.{length, getD, take, drop, set, length-append, length-drop, length-set, drop-of-length-le}
 use lib.Seq.{sets, length-sets, length-take-le, take-all, drop-cons, drop-set-lt, getD-set-same}
 use borrow.Author.Tests.{ltb-true, ltb-false, leb-true, leb-false, lt-ltb, le-ltb}
 use Rattle.token.specs.Bytes.{bytes}
 use Rattle.loader.specs.Load.{Sized, Loaded, loaded, lentAs, isShort, isLong, loadOf}
 use Rattle.loader.specs.declared.whole.Verdict.{Verdict}
 use Rattle.loader.specs.declared.whole.Verdict.the-variants.{Accepted, Refused}
-use Rattle.tables.proofs.Laws.{and-left, and-right}
 use Rattle.lines.specs.Lines.{digitsBefore, decimal, numbered, lineOf, Put, verdictOn, Line}
-
-drop-all : (n : ℕ) (l : List ℕ) → length l ≤ n → drop n l ≡ []
-drop-all zero [] h = refl
-drop-all zero (x ∷ l) h = absurd (not-suc-le-zero h)
-drop-all (suc n) [] h = refl
-drop-all (suc n) (x ∷ l) h = drop-all n l (le-of-suc-le-suc h)
+use Rattle.logic.proofs.Tests.{and-left, and-right}
 
 -- ---- bytes put one after the other
 sets-both : (t : List ℕ) (at : ℕ) (xs ys : List ℕ) → sets t at (xs ++ ys) ≡ sets (sets t at xs) (at + length xs) ys
@@ -64,7 +57,7 @@ putting-more {before} {what} {here} {next} {at} {k} p l e =
 pub putting-all : {before what here : List ℕ} {at k : ℕ} → Putting before at what here k → length what ≤ k → Put before at what here (at + k)
 putting-all {before} {what} {here} {at} {k} p l =
     record {
-      stored = sym (p .to-come ∙ rw (drop-all k what l));
+      stored = sym (p .to-come ∙ rw (drop-of-length-le what l));
       behind = let q : k ≡ length what = omega (arith, p .within) in ap (λ (n : ℕ). at + n) q;
     }
 
@@ -108,7 +101,7 @@ pub record Spelling (number : ℕ) (digits : List ℕ) (rest i : ℕ) : Type 0 w
 pub spelling-none : (number : ℕ) (digits : List ℕ) → length digits ≡ 20 → Spelling number digits number 20
 unfolding decimal
 spelling-none number digits l =
-    record { some = omega arith; most = omega arith; long = l; to-come = rw (drop-all 20 digits (omega arith)) }
+    record { some = omega arith; most = omega arith; long = l; to-come = rw (drop-of-length-le digits {i = 20} (omega arith)) }
 
 module _ {number rest i : ℕ} {digits : List ℕ} (s : Spelling number digits rest i) where
   pub spelling-more : {next : List ℕ} → (leb 10 rest && ltb 1 i) ≡ true → next ≡ set digits (i - 1) (48 + rest % 10) → Spelling number next (rest / 10) (i - 1)

@@ -8,7 +8,7 @@ use mathlib.Core.Logic.{_↔_, inl, inr}
 use mathlib.Core.List.{List}
 use lib.Dec.{ltb}
 use lib.ListN.{getD}
-use borrow.Author.Tests.{ltb-true, ltb-false, lt-ltb, le-ltb}
+use borrow.Author.Tests.{ltb-true, ltb-false, lt-ltb, le-ltb, not-true, not-false}
 use Rattle.token.specs.Kind.{pick}
 use Rattle.syntax.specs.declared.reader.Step.{Step}
 use Rattle.syntax.specs.declared.reader.Step.the-variants.{At, Refused as Stopped}
@@ -25,7 +25,7 @@ use Rattle.loader.specs.declared.whole.Verdict.{Verdict}
 use Rattle.loader.specs.declared.whole.Verdict.the-variants.{Accepted, Refused}
 use Rattle.loader.specs.Load.{Loaded, judged, judgedAs, isAccepted, leftBy, laidOver, firstUncovered, onceRead, verdictOf, isShort, isLong, loadOf}
 use Rattle.loader.specs.Claim.{declared, tally, oneParameter, oneRegister, oneVariable, Reads, standing, mapped, AllMapped, FirstUnmapped, Unread, RightRead, RightVerdict, Leaves}
-use Rattle.loader.proofs.FirstLaws.{not-true, not-false, first-passes, first-before, first-all, first-only}
+use Rattle.loader.proofs.FirstLaws.{first-passes, first-before, first-all, first-only}
 use Rattle.loader.proofs.Numbers.{reading-number}
 use Rattle.loader.proofs.Breaking.{is-fault, not-none, all-keep, first-broken, broken-fault, keep-faultless}
 use Rattle.loader.proofs.Tallied.{tallied}
@@ -46,14 +46,14 @@ module _ (s : State) where
       record {
         register = first;
         inside = l;
-        earlier = λ i m. not-false (first-before count (λ k. not (mapped s k)) i m);
-        unmapped = not-true (first-passes count (λ k. not (mapped s k)) l);
+        earlier = λ i m. not-false _ (first-before count (λ k. not (mapped s k)) i m);
+        unmapped = not-true _ (first-passes count (λ k. not (mapped s k)) l);
         place-is = refl;
       }
 
   all-mapped : ltb first count ≡ false → AllMapped s
   unfolding AllMapped firstUncovered mapped
-  all-mapped h i l = not-false (first-before count (λ k. not (mapped s k)) i (omega (arith, ltb-false first count h)))
+  all-mapped h i l = not-false _ (first-before count (λ k. not (mapped s k)) i (omega (arith, ltb-false first count h)))
 
   unmapped-first : (place : ℕ) (u : FirstUnmapped s place) → first ≡ u .register
   unfolding firstUncovered mapped

@@ -8,14 +8,14 @@ use mathlib.Core.Bool.{Bool, true, false, _&&_, cond, false≢true}
 use mathlib.Core.List.{List, [], _∷_, _++_}
 use lib.Dec.{eqb, leb, ltb}
 use lib.ListN.{length, getD}
-use borrow.Author.Tests.{leb-true, leb-false, lt-leb, ltb-true}
+use borrow.Author.Tests.{leb-true, leb-false, lt-leb, ltb-true, not-false}
 use Rattle.syntax.specs.declared.register.Port.{Port}
 use Rattle.syntax.specs.declared.register.Register.{Register}
 use Rattle.tables.specs.Every.{every, some}
 use Rattle.tables.specs.Tables.{countOf, registerPart, registerPartIn, rangeCount, rangeOf}
 use Rattle.tables.specs.Rules.{rangeFits, rangesFit, rangeHolds, offsetIn, placed, masksFit, parameterShape, parameterFault, registerPartShape, registerShape}
 use Rattle.tables.specs.Sound.{parameterGood}
-use Rattle.tables.proofs.Laws.{and-left, and-right, every-at}
+use Rattle.tables.proofs.Laws.{every-at}
 use Rattle.rules.specs.declared.mask.Mask.{Mask}
 use Rattle.rules.specs.State.{State}
 use Rattle.rules.specs.Names.{indexOf}
@@ -24,7 +24,7 @@ use Rattle.rules.specs.Register.{naturalOf, isNatural, hasPart, portOf, partEnt
 use Rattle.rules.proofs.FaultLaws.{or-none, if-none, only-none}
 use Rattle.rules.proofs.AppendLaws.{appended-word}
 use Rattle.rules.proofs.RegisterShape as R
-use Rattle.loader.proofs.FirstLaws.{not-false}
+use Rattle.logic.proofs.Tests.{and-left, and-right}
 
 -- ---- words that are small are themselves
 word-is : (a n : ℕ) → n ≤ 256 → wordOf a < n → wordOf a ≡ a
@@ -123,7 +123,7 @@ module _ (text : List ℕ) (s : State) (r : Register) (none : registerWritten te
   -- 8 is not broken as written
   offset-of : (p : Port) → badOffset text ps (r .place) p .number ≡ 0 → offsetIn ps (indexOf (portFound text ps p)) (naturalOf (p .worth)) ≡ true
   unfolding badOffset
-  offset-of p h = and-right (isNatural (p .worth)) _ (not-false (if-none _ 8 _ (λ e. omega arith) h))
+  offset-of p h = and-right (isNatural (p .worth)) _ (not-false _ (if-none _ 8 _ (λ e. omega arith) h))
 
   offsets : (badOffset text ps (r .place) (r .first) .number ≡ 0) × (r .two ≡ true → badOffset text ps (r .place) (r .second) .number ≡ 0)
   unfolding registerWritten

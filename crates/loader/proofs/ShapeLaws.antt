@@ -4,7 +4,7 @@ use Prim.Native.Nat.{ℕ, zero, suc, _+_, _-_, _*_, _≤_, _<_}
 use native.Mathlib.Omega.{arith}
 use native.Mathlib.Nat.{min-eq-left}
 use mathlib.Core.Path.{_≡_, refl, sym, ap, _∙_, subst}
-use mathlib.Core.Bool.{Bool, true, false, _&&_, _||_, cond, false≢true}
+use mathlib.Core.Bool.{Bool, true, false, _&&_, _||_, cond, false≢true, or-true}
 use mathlib.Core.List.{List, _∷_, _++_}
 use lib.Dec.{eqb, leb}
 use lib.ListN.{length, getD, replicate, length-append, getD-replicate, List·getD-append, List·getD-eq-default}
@@ -16,7 +16,6 @@ use Rattle.tables.specs.Words.{countOf, present, pieceCount, pieceAt, triggerOf
 use Rattle.tables.specs.Rules.{variablePartShape, variableShape}
 use Rattle.tables.proofs.Laws.{every-same}
 use Rattle.tables.proofs.ZeroLaws.{zeros-every, zeros-are}
-use Rattle.tables.proofs.SameLaws.{and-same}
 use Rattle.tables.proofs.Growth.{Added}
 use Rattle.rules.specs.Words.{wordOf, written, appended}
 use Rattle.rules.specs.Lists.{pieceWords, piecesOn, piecesOf, partWords}
@@ -24,6 +23,7 @@ use Rattle.rules.specs.Variable.{flagOf, triggers, headWords, withVariable}
 use Rattle.rules.proofs.AppendLaws.{length-appended, appended-word, appended-added}
 use Rattle.rules.proofs.WordLaws.{appended-three}
 use Rattle.rules.proofs.WrittenLaws.{length-written, written-above}
+use Rattle.logic.proofs.Tests.{and-same}
 
 -- ---- the pieces of a list: 24 words, zero behind the last piece
 module _ (text rs list : List ℕ) where
@@ -112,10 +112,6 @@ part-there d first second trigger from h = go (eqb from 1) (eqb from 2) refl ref
     go true b e g h = rw e
     go false true e g h = rw (e, g)
     go false false e g h = absurd (false≢true h)
-
-or-true : (b : Bool) → (b || true) ≡ true
-or-true true = refl
-or-true false = refl
 
 -- ---- the entry, written in one run
 module _ (vs : List ℕ) (d : Variable) (first second : List ℕ) (read write : ℕ) where

@@ -4,17 +4,13 @@ use Prim.Native.Nat.{ℕ}
 use mathlib.Core.Path.{_≡_, refl, sym, ap, _∙_}
 use mathlib.Core.Bool.{Bool, true, false, not, false≢true}
 use lib.Dec.{eqb}
-use borrow.Author.Tests.{eqb-true, eqb-false, eq-eqb}
+use borrow.Author.Tests.{eqb-true, eqb-false, eq-eqb, not-false}
 use Rattle.rules.specs.declared.fault.Fault.{Fault}
 use Rattle.rules.specs.Fault.{faultIf, only, orElse, isFault}
 
-not-false : {b : Bool} → not b ≡ false → b ≡ true
-not-false {b = true} h = refl
-not-false {b = false} h = absurd (false≢true (sym h))
-
 pub no-number : (f : Fault) → isFault f ≡ false → f .number ≡ 0
 unfolding isFault
-no-number f e = eqb-true (f .number) 0 (not-false e)
+no-number f e = eqb-true (f .number) 0 (not-false _ e)
 
 pub has-number : (f : Fault) → isFault f ≡ true → f .number ≡ 0 → ⊥
 unfolding isFault

@@ -7,25 +7,25 @@ use mathlib.Core.Path.{_≡_, refl, sym, ap, _∙_}
 use mathlib.Core.Bool.{Bool, true, false, _&&_}
 use mathlib.Core.List.{List, [], _∷_}
 use lib.Dec.{eqb, ltb, leb}
-use lib.ListN.{length, getD, take, drop, length-drop}
+use lib.ListN.{length, getD, take, drop, length-drop, drop-of-length-le}
 use lib.Seq.{drop-cons, take-all, take-length, drop-length}
 use borrow.Author.Tests.{eq-eqb, ne-eqb, lt-ltb, le-ltb, eqb-true, leb-true, leb-false, ltb-true}
 use Rattle.token.specs.Bytes.{begins}
 use Rattle.tables.specs.Every.{firstOf, Word}
 use Rattle.tables.specs.Tables.{countOf}
-use Rattle.tables.proofs.Laws.{first-found, and-right}
+use Rattle.tables.proofs.Laws.{first-found}
 use Rattle.rules.specs.declared.names.Found.the-variants.{At, Nothing}
 use Rattle.rules.specs.Names.{standsAt, isNamed, heldOf, Held, foundBelow, foundIn, indexOf}
-use Rattle.rules.proofs.WordLaws.{drop-all}
+use Rattle.logic.proofs.Tests.{and-right}
 
 module _ (name text : List ℕ) (k : ℕ) where
   pub begins-end : length name ≤ k → begins (drop k name) (drop k text) ≡ true
   unfolding begins
-  begins-end h = rw (drop-all k name h)
+  begins-end h = rw (drop-of-length-le name h)
 
   pub begins-short : k < length name → length text ≤ k → begins (drop k name) (drop k text) ≡ false
   unfolding begins
-  begins-short h s = rw (drop-cons name k 0 h, drop-all k text s)
+  begins-short h s = rw (drop-cons name k 0 h, drop-of-length-le text s)
 
   pub begins-on : k < length name → k < length text → getD text k 0 ≡ getD name k 0
       → begins (drop k name) (drop k text) ≡ begins (drop (k + 1) name) (drop (k + 1) text)
@@ -66,7 +66,7 @@ drop-min n l = go (leb n (length l)) refl
   where
     go : (b : Bool) → leb n (length l) ≡ b → drop (min n (length l)) l ≡ drop n l
     go true h = rw (min-eq-left (leb-true n (length l) h))
-    go false h = rw (min-eq-right (le-of-lt (leb-false n (length l) h))) (drop-length l ∙ sym (drop-all n l (le-of-lt (leb-false n (length l) h))))
+    go false h = rw (min-eq-right (le-of-lt (leb-false n (length l) h))) (drop-length l ∙ sym (drop-of-length-le l (le-of-lt (leb-false n (length l) h))))
 
 pub part-of : (text : List ℕ) (place extent : ℕ) {start more : ℕ} → start ≡ min place (length text) → more ≡ min extent (length text - start)
     → take (start + more - start) (drop start text) ≡ take extent (drop place text)

@@ -13,9 +13,10 @@ use Rattle.tables.specs.Marks.{distinct}
 use Rattle.tables.specs.Words.{countOf, present, pieceCount, pieceAt, pieceIn, triggerOf, registerPart, registerPartIn, variablePart, variablePartIn, kindOf, volatileOf, partBits}
 use Rattle.tables.specs.Rules.{masksFit, registerPartShape, registerShape, pieceFits, partMaps, ownFault, variablePartShape, variableShape, variableFault, mappedBefore, triggerShared}
 use Rattle.tables.specs.Sound.{registerGood, variableGood}
-use Rattle.tables.proofs.Laws.{and-left, and-right, every-at}
+use Rattle.tables.proofs.Laws.{every-at}
 use Rattle.tables.proofs.BelowLaws.{piece-fit, own-maps}
 use Rattle.tables.proofs.SoundLaws.{fault-parts}
+use Rattle.logic.proofs.Tests.{and-left, and-right}
 
 either : (a b : Bool) (P : Type 0) → (a || b) ≡ true → (a ≡ true → P) → (b ≡ true → P) → P
 either true b P h f g = f refl

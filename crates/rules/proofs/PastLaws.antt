@@ -15,10 +15,11 @@ use Rattle.tables.specs.Words.{countOf, parameterAt, rangeAt, rangeCount, regis
 use Rattle.tables.specs.Tables.{rangeOf}
 use Rattle.tables.specs.Rules.{rangeHolds, offsetIn, placed, masksFit, parameterShape, registerPartShape, registerShape, registerFault, variableShape, covered}
 use Rattle.tables.specs.Sound.{parameterGood, registerGood, variableGood}
-use Rattle.tables.proofs.Laws.{and-left, and-right, every-at, every-is, every-same, some-same}
+use Rattle.tables.proofs.Laws.{every-at, every-is, every-same, some-same}
 use Rattle.tables.proofs.ZeroLaws.{zeros-at, zeros-are}
 use Rattle.tables.proofs.SameLaws.{Alike, parameter-same, register-same, variable-same, variable-shape-same, shape-few, part-bits-same}
 use Rattle.tables.proofs.Growth.{SoFar, variable-kept}
+use Rattle.logic.proofs.Tests.{and-left, and-right}
 
 -- ---- a register keeps its rules where the words of the parameters stay
 module _ (a b rs : List ℕ) (same-count : countOf a ≡ countOf b) (same : Alike (parameterAt (countOf a)) a b) (few : (j : ℕ) → j < countOf a → rangeCount b j ≤ 16) where

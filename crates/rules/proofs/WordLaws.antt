@@ -5,16 +5,10 @@ use native.Mathlib.Nat.{not-suc-le-zero, le-of-suc-le-suc}
 use native.Mathlib.Numerals.{add-one}
 use mathlib.Core.Path.{_≡_, refl, ap, _∙_}
 use mathlib.Core.List.{List, [], _∷_, _++_, append-nil}
-use lib.ListN.{length, getD, drop, set, replicate}
+use lib.ListN.{length, getD, drop, set, replicate, drop-of-length-le}
 use lib.Seq.{drop-cons, drop-length, sets}
 use Rattle.tables.specs.Tables.{countOf}
 use Rattle.rules.specs.Words.{wordOf, written, appended}
-
-pub drop-all : (n : ℕ) (l : List ℕ) → length l ≤ n → drop n l ≡ []
-drop-all zero [] h = refl
-drop-all zero (x ∷ l) h = absurd (not-suc-le-zero h)
-drop-all (suc n) [] h = refl
-drop-all (suc n) (x ∷ l) h = drop-all n l (le-of-suc-le-suc h)
 
 -- a run of stores: its start, one word more, and the end
 pub written-start : (t : List ℕ) (at : ℕ) (ws : List ℕ) → written t at ws ≡ written t (at + 0) (drop 0 ws)
@@ -31,7 +25,7 @@ written-turn t at k ws h p =
 
 pub written-end : (t : List ℕ) (at k : ℕ) (ws : List ℕ) → length ws ≤ k → written t (at + k) (drop k ws) ≡ t
 unfolding written
-written-end t at k ws h = rw (drop-all k ws h)
+written-end t at k ws h = rw (drop-of-length-le ws h)
 
 -- one zero more
 clear-suc : (k : ℕ) (t : List ℕ) → k < length t → set (replicate k 0 ++ drop k t) k 0 ≡ replicate (suc k) 0 ++ drop (suc k) t

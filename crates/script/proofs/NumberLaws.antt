@@ -1,5 +1,5 @@
 -- One step along the digits of a number. Assumes nothing.
-use mathlib.Core.Bool.{Bool, true, false, _&&_, false≢true}
+use mathlib.Core.Bool.{true, false, _&&_, false≢true, and-true, and-false}
 use mathlib.Core.List.{List, [], _∷_}
 use mathlib.Core.Path.{_≡_, refl}
 use Prim.Native.Nat.{ℕ, zero, suc, _+_, _-_, _*_, _/_, _≤_, _<_, _^_}
@@ -12,10 +12,10 @@ use borrow.Author.Tests.{lt-ltb, le-ltb}
 use Rattle.token.specs.Number.{digitOf, isDigit}
 use Rattle.token.proofs.RunSteps.{to-come}
 use Rattle.token.specs.Bytes.{begins}
-use Rattle.token.proofs.Bools.{and-true, and-false}
 use Rattle.script.specs.Numbers.{figures, figuresFrom, natural, negated}
 use Rattle.script.specs.declared.numbers.Number.the-variants.{Is, Nothing}
 use Rattle.script.specs.declared.numbers.Value.the-variants as value
+use Rattle.logic.proofs.Tests.{and-right}
 
 -- the first byte and the first two
 pub begins-one : (a : ℕ) (s : List ℕ) → 0 < length s → begins (a ∷ []) s ≡ eqb (getD s 0 0) a
@@ -28,10 +28,6 @@ unfolding begins
 begins-two a b [] h = absurd (omega arith)
 begins-two a b (x ∷ []) h = absurd (omega arith)
 begins-two a b (x ∷ y ∷ s) h = rw (and-true (eqb y b))
-
-and-right : (a b : Bool) → (a && b) ≡ true → b ≡ true
-and-right true b e = e
-and-right false b e = absurd (false≢true e)
 
 -- what begins with some bytes has as many
 pub begins-room : (p s : List ℕ) → begins p s ≡ true → length p ≤ length s

@@ -13,7 +13,7 @@ use lib.Dec.{eqb, leb}
 use lib.IntN.{ℤ}
 use lib.ListN.{length, getD, set, take, drop, length-set, length-map, length-append}
 use lib.Seq.{drop-cons, drop-length, take-length, take-all, getD-set-other}
-use borrow.Author.Tests.{eqb-true, eqb-false, eq-eqb, ne-eqb, ltb-true, leb-true, le-leb}
+use borrow.Author.Tests.{eqb-true, eqb-false, eq-eqb, ne-eqb, ltb-true, leb-true, le-leb, not-false}
 use Rattle.tables.specs.declared.Part.the-variants.{Read as reading, Write as writing}
 use Rattle.tables.specs.View.{Tables, sound, Among, registerCount, registerWidth, isDot, isOne, variableCount, variableHas, kindOf, size, homeOf, spotOf, registersOf}
 use Rattle.tables.proofs.Consistent.{consistent}
@@ -27,12 +27,13 @@ use Rattle.station.specs.Answers.{refusalOf}
 use Rattle.station.specs.Steps.{Once, readPlan, writePlan, broughtFor, valueRead, answersOf, offersThenDone, GoesByPlan}
 use Rattle.bits.proofs.BitLaws.{bits-equal, bit-number, number-lt}
 use Rattle.bits.proofs.ValueLaws.{encode-lt, decode-encode}
-use Rattle.station.proofs.Cases.{either, and-true, not-false-is, among-take, getD-among}
+use Rattle.station.proofs.Cases.{among-take, getD-among}
 use Rattle.station.proofs.ByteLaws.{gather-here, gather-there}
 use Rattle.station.proofs.Registers.{mentioned, some-step}
 use Rattle.station.proofs.Distinct.{each-once, once-apart, at-most-8}
 use Rattle.station.proofs.Underway.{is-underway, allow-reading, allow-writing, gathered-none, gathered-more, gather-lt}
 use Rattle.station.proofs.Refusals.{some≢none, unless-cases}
+use Rattle.logic.proofs.Tests.{either, both}
 
 -- ── lists ──
 
@@ -224,8 +225,8 @@ stands : (t : Tables) (s : State) → not (sound t) ≡ false → not (isLong t 
     → (sound t ≡ true) × (registerCount t ≤ length (s .kept)) × (variableCount t ≤ length (s .marks))
 unfolding isLong
 stands t s is-sound is-long =
-    let both = and-true (leb (registerCount t) (length (s .kept))) _ (not-false-is _ is-long) in
-    (not-false-is _ is-sound, leb-true _ _ (both .0), leb-true _ _ (both .1))
+    let are-long = both (leb (registerCount t) (length (s .kept))) _ (not-false _ is-long) in
+    (not-false _ is-sound, leb-true _ _ (are-long .0), leb-true _ _ (are-long .1))
 
 -- every answer, where all is confirmed
 whole-of : (accesses : List Access) (value : ℤ) (n : ℕ) → n ≡ length accesses → take (suc n) (offersThenDone accesses value) ≡ offersThenDone accesses value
@@ -244,9 +245,9 @@ module _ (t : Tables) (s : State) (v : ℕ) where
       (λ passed e bytes few.
       let (is-sound, (is-long, (_, (_, (there, (has, (fits, _))))))) = passed in
       let (ok, hk, hm) = stands t s is-sound is-long in
-      let hv = ltb-true _ _ (not-false-is _ there) in
-      let here = not-false-is _ has in
-      let in-range = not-false-is _ fits in
+      let hv = ltb-true _ _ (not-false _ there) in
+      let here = not-false _ has in
+      let in-range = not-false _ fits in
       let x = encode (size t writing v) z in
       let count = length-map (registersOf t writing v) (λ (r : ℕ). accessAt t writing r (writtenByte t (keptOf s) v x r)) in
       writes-from t ok bytes (s .kept) (s .marks) (keptOf s) v 0 x hv here (encode-lt (kindOf t v) (size t writing v) z in-range) hk hm
@@ -260,8 +261,8 @@ module _ (t : Tables) (s : State) (v : ℕ) where
       (λ passed e bytes few.
       let (is-sound, (is-long, (_, (_, (there, (has, _)))))) = passed in
       let (ok, hk, hm) = stands t s is-sound is-long in
-      let hv = ltb-true _ _ (not-false-is _ there) in
-      let here = not-false-is _ has in
+      let hv = ltb-true _ _ (not-false _ there) in
+      let here = not-false _ has in
       let count = length-map (registersOf t reading v) (λ (r : ℕ). accessAt t reading r 0) in
       reads-from t ok bytes (s .kept) (s .marks) (broughtFor (registersOf t reading v) bytes) v 0 0 hv here (gathered-none t v) hk hm
       (some-step t (consistent t ok) reading v hv here) (omega arith)
@@ -280,14 +281,14 @@ module _ (t : Tables) (s : State) (v : ℕ) where
       unless-cases Sound (readTests sound t s v) s _ (λ n e. absurd (some≢none n e))
       (λ passed e.
       let (is-sound, (_, (_, (_, (there, _))))) = passed in
-      (not-false-is _ is-sound, ltb-true _ _ (not-false-is _ there)))
+      (not-false _ is-sound, ltb-true _ _ (not-false _ there)))
 
   sound-write : (z : ℤ) → Sound (beginWrite sound t s v z)
   sound-write z =
       unless-cases Sound (writeTests sound t s v z) s _ (λ n e. absurd (some≢none n e))
       (λ passed e.
       let (is-sound, (_, (_, (_, (there, _))))) = passed in
-      (not-false-is _ is-sound, ltb-true _ _ (not-false-is _ there)))
+      (not-false _ is-sound, ltb-true _ _ (not-false _ there)))
 
   pub read-steps : GoesByPlan t (beginRead sound t s v) (readPlan t v) (valueRead t v)
   read-steps =

@@ -12,15 +12,16 @@ use Rattle.tables.specs.declared.Part.the-variants.{Read as reading, Write as w
 use Rattle.tables.specs.View.{Tables, variableCount, variableHas, size, homeOf, registersOf, isAmong}
 use Rattle.station.specs.Calls.{Idle, Reading, Writing, isUnderway, isRead, isGathered, gatheredBit, isAllowed, gather, registerTaken, stepsOf}
 use Rattle.bits.proofs.BitLaws.{bit-number, number-lt, number-same, number-zero}
-use Rattle.station.proofs.Cases.{and-true, true-and, isAmong-take}
+use Rattle.station.proofs.Cases.{true-and, isAmong-take}
+use Rattle.logic.proofs.Tests.{both}
 
 module _ (t : Tables) where
   pub underway : (part : Part) (v step : ℕ) → isUnderway t part v step ≡ true
       → (v < variableCount t) × (variableHas t part v ≡ true) × (step < stepsOf t part v)
   unfolding isUnderway
   underway part v step e =
-      let one = and-true _ _ e in
-      let two = and-true _ _ (one .1) in
+      let one = both _ _ e in
+      let two = both _ _ (one .1) in
       (ltb-true _ _ (one .0), two .0, ltb-true _ _ (two .1))
 
   pub is-underway : (part : Part) (v step : ℕ) → v < variableCount t → variableHas t part v ≡ true → step < stepsOf t part v → isUnderway t part v step ≡ true
@@ -31,17 +32,17 @@ module _ (t : Tables) where
       → (v < variableCount t) × (variableHas t reading v ≡ true) × (step < stepsOf t reading v) × (isGathered t v step g ≡ true)
   unfolding isAllowed
   reading-allowed v step g e =
-      let both = and-true (isUnderway t reading v step) _ e in
-      let (hv, has, hs) = underway reading v step (both .0) in
-      (hv, has, hs, both .1)
+      let parts = both (isUnderway t reading v step) _ e in
+      let (hv, has, hs) = underway reading v step (parts .0) in
+      (hv, has, hs, parts .1)
 
   pub writing-allowed : (v step x : ℕ) → isAllowed t (Writing v step x) ≡ true
       → (v < variableCount t) × (variableHas t writing v ≡ true) × (step < stepsOf t writing v) × (x < 2 ^ size t writing v)
   unfolding isAllowed
   writing-allowed v step x e =
-      let both = and-true (isUnderway t writing v step) _ e in
-      let (hv, has, hs) = underway writing v step (both .0) in
-      (hv, has, hs, ltb-true _ _ (both .1))
+      let parts = both (isUnderway t writing v step) _ e in
+      let (hv, has, hs) = underway writing v step (parts .0) in
+      (hv, has, hs, ltb-true _ _ (parts .1))
 
   pub allow-reading : (v step g : ℕ) → isUnderway t reading v step ≡ true → isGathered t v step g ≡ true → isAllowed t (Reading v step g) ≡ true
   unfolding isAllowed

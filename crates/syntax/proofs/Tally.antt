@@ -4,7 +4,7 @@
 use Prim.Native.Nat.{ℕ, zero, suc, _+_, _≤_, _<_}
 use native.Mathlib.Omega.{arith}
 use mathlib.Core.Path.{_≡_, refl, sym, ap, _∙_, subst}
-use mathlib.Core.Bool.{Bool, true, false, _||_}
+use mathlib.Core.Bool.{Bool, true, false, _||_, or-true}
 use mathlib.Core.Logic.{_⊎_, inl, inr}
 use mathlib.Core.List.{List, [], _∷_}
 use mathlib.Core.Option.{Option, none, some}
@@ -27,10 +27,6 @@ use Rattle.syntax.specs.Reader.{unexpected, sizedName, nameIn, seenAt, p
 use Rattle.syntax.specs.Parameter.{tooMany}
 use Rattle.syntax.proofs.Follows.{number-is}
 use Rattle.syntax.specs.Sizes.{Tally, tallied, longName, tooMuch, passedIn, NotBefore, Kept}
-
-pub or-true : (b : Bool) → (b || true) ≡ true
-or-true true = refl
-or-true false = refl
 
 pub or-false : (b : Bool) → b ≡ false → (b || false) ≡ false
 or-false b e = ap (λ (c : Bool). c || false) e

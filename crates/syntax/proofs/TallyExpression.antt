@@ -3,7 +3,7 @@
 use Prim.Native.Nat.{ℕ, zero, suc, _+_, _-_, _<_}
 use native.Mathlib.Omega.{arith}
 use mathlib.Core.Path.{_≡_, refl, sym, ap, _∙_, subst}
-use mathlib.Core.Bool.{Bool, true, false, _||_}
+use mathlib.Core.Bool.{Bool, true, false, _||_, or-true}
 use mathlib.Core.Logic.{_⊎_, inl, inr}
 use mathlib.Core.List.{List, [], _∷_}
 use mathlib.Core.Option.{Option}
@@ -31,7 +31,7 @@ use Rattle.syntax.specs.declared.reader.Step.the-variants.{At, Refused}
 use Rattle.syntax.specs.Offset.{stepIn, expressionAfter}
 use Rattle.syntax.specs.Sizes.{Encloser, parenthesis, minus, register, operand, ended, closed, asksOperand, onward, passesAt, Tally, tallied, longName, tooMuch}
 use Rattle.syntax.proofs.ExpressionFollows.{Matches, opening-kind, refused-alike, negated-step, closed-step}
-use Rattle.syntax.proofs.Tally.{Agrees, refused-agrees, agrees-unexpected, agrees-five, agrees-kind, agrees-tok, goes, or-true}
+use Rattle.syntax.proofs.Tally.{Agrees, refused-agrees, agrees-unexpected, agrees-five, agrees-kind, agrees-tok, goes}
 
 -- an operator is something
 apart : {operator : Operator} → Ends ≡ By operator → ⊥

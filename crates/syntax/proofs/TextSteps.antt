@@ -1,9 +1,7 @@
 -- The reading of a whole text, step by step: what the calls of the code come to.
 -- Assumes nothing.
 use Prim.Native.Nat.{ℕ}
-use mathlib.Core.Path.{_≡_, refl, sym, ap, _∙_}
-use mathlib.Core.Bool.{Bool, true, false, not}
-use Rattle.grammar.proofs.SetLaws.{clash}
+use mathlib.Core.Path.{_≡_, refl, ap, _∙_}
 use mathlib.Core.List.{List}
 use Rattle.syntax.specs.declared.reader.Step.{Step}
 use Rattle.syntax.specs.declared.reader.Step.the-variants.{At, Refused}
@@ -27,20 +25,6 @@ unfolding bare outlined
 bare-is e = ap bare e
 
 -- what a call of a test showed
-not-false : (b : Bool) → not b ≡ false → b ≡ true
-not-false true e = refl
-not-false false e = clash true refl e
-
-not-true : (b : Bool) → not b ≡ true → b ≡ false
-not-true true e = clash false e refl
-not-true false e = refl
-
-pub passed : {answer meaning : Bool} → answer ≡ meaning → not answer ≡ false → meaning ≡ true
-passed {answer} e t = sym e ∙ not-false answer t
-
-pub failed : {answer meaning : Bool} → answer ≡ meaning → not answer ≡ true → meaning ≡ false
-failed {answer} e t = sym e ∙ not-true answer t
-
 module _ (text : List ℕ) (o : Outline) where
   -- a turn of the loop over parameters, over what its calls answered
   pub parameter-turn : {behind next : Outline} {seen : Seen} → seen ≡ seenAt text (o .step) → behind ≡ outlined (movedTo (bare o) (seen .past)) → next ≡ outlined (parameterWith idle text (bare behind))

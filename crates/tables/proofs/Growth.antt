@@ -3,13 +3,13 @@
 use Prim.Native.Nat.{ℕ, zero, suc, _+_, _-_, _*_, _<_, _≤_}
 use native.Mathlib.Omega.{arith}
 use mathlib.Core.Path.{_≡_, refl, sym, ap, ap₂, _∙_, subst}
-use mathlib.Core.Bool.{Bool, true, false, _&&_, not, cond, true≢false}
+use mathlib.Core.Bool.{Bool, true, false, _&&_, not, cond}
 use mathlib.Core.Logic.{⊎-elim}
 use mathlib.Core.List.{List}
 use native.Mathlib.Nat.{not-suc-le-zero, le-of-suc-le-suc, eq-or-lt-of-le}
 use lib.Dec.{eqb, leb, ltb}
 use lib.ListN.{getD, length, replicate}
-use borrow.Author.Tests.{ltb-true, ltb-false, lt-ltb}
+use borrow.Author.Tests.{ltb-true, ltb-false, lt-ltb, not-false}
 use Rattle.tables.specs.Every.{every, firstOf, zeros}
 use Rattle.tables.specs.Marks.{distinct, mapBy, marks}
 use Rattle.tables.specs.Tables.{countOf, partBits, pieceAt, pieceIn, registerAt, registerPart, registerPartIn, variableAt, variablePart, variablePartIn}
@@ -17,13 +17,14 @@ use Rattle.tables.specs.Words.{pieceCount, pieceHigh, pieceLow, pieceReg
 use Rattle.tables.specs.Rules.{covered, mappedBefore, onDots, ownFault, parameterFault, parameterShape, partMaps, pieceFits, registerFault, registerShape, triggerShared, typeFits, variableFault, variableShape, volatileFits}
 use Rattle.tables.specs.Scan.{Before, Entered, coveredBy}
 use Rattle.tables.specs.Sound.{parameterGood, registerGood, restZero, rulesKept, shapesFit, sound, tablesFit, variableGood}
-use Rattle.tables.proofs.Laws.{and-left, and-right, every-at, every-is, every-and, first-le}
+use Rattle.tables.proofs.Laws.{every-at, every-is, every-and, first-le}
 use Rattle.tables.proofs.ZeroLaws.{zeros-at, zeros-are}
 use Rattle.tables.proofs.BelowLaws.{own-maps}
 use Rattle.tables.proofs.MapLaws.{map-none, map-more}
 use Rattle.tables.proofs.ScanLaws.{uncovered-says}
 use Rattle.tables.proofs.SoundLaws.{fault-parts}
 use Rattle.tables.proofs.SameLaws.{Alike, parameter-same, register-same, variable-same, variable-shape-same, shape-few, part-bits-same, part-registers-same}
+use Rattle.logic.proofs.Tests.{and-left, and-right}
 
 -- a table with one entry more, of `stride` words: the count is one higher, and only that entry's words are new
 pub record Added (stride : ℕ) (a b : List ℕ) : Type 0 where
@@ -226,10 +227,6 @@ first-all (suc n) p e k l = go (ltb (firstOf n p) n) refl (p n) refl e (λ h m. 
     go false h false g e rest =
         let here : firstOf n p ≡ n = omega (arith, first-le n p, ltb-false (firstOf n p) n h) in
         ⊎-elim (λ (q : k ≡ n). ap p q ∙ g) (λ (m : k < n). rest here m) (eq-or-lt-of-le (le-of-suc-le-suc l))
-
-not-false : (b : Bool) → not b ≡ false → b ≡ true
-not-false true e = refl
-not-false false e = absurd (true≢false e)
 
 -- `uncovered` answered the count of registers: rule 16 is kept
 pub covered-all : (rs vs : List ℕ) (n r : ℕ) {read held pulled write held′ pulled′ : List ℕ} → countOf rs ≤ 64

@@ -15,8 +15,9 @@ use Rattle.tables.specs.Rules.{masksFit, registerPartShape, registerShap
 use Rattle.tables.specs.Sound as S
 use Rattle.tables.specs.Sound.{tablesFit, restZero, shapesFit, rulesKept}
 use Rattle.tables.specs.View.{Tables, Part, reading, writing, partNo, sound, registerCount, isDot, isOne}
-use Rattle.tables.proofs.Laws.{and-left, and-right, every-at}
+use Rattle.tables.proofs.Laws.{every-at}
 use Rattle.tables.proofs.ZeroLaws.{zeros-at}
+use Rattle.logic.proofs.Tests.{and-left, and-right}
 
 -- the masks of a part of a fitting shape, there or not
 pub record Elements (part : RegisterPart) : Type 0 where

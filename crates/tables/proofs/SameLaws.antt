@@ -14,18 +14,15 @@ use Rattle.tables.specs.Tables.{bitsOf, kindOf, mentionedBy, parameterAt
 use Rattle.tables.specs.Words.{pieceCount, pieceRegister, present, triggerOf}
 use Rattle.tables.specs.Rules.{mappedBefore, ownFault, parameterFault, parameterShape, partMaps, pieceFits, placeTaken, placed, rangeFits, rangesFit, registerFault, registerPartShape, registerShape, triggerShared, typeFits, variableFault, variablePartShape, variableShape, volatileFits, widthFits}
 use Rattle.tables.specs.Sound.{parameterGood, registerGood, variableGood}
-use Rattle.tables.proofs.Laws.{and-left, and-right, every-same, some-same}
+use Rattle.tables.proofs.Laws.{every-same, some-same}
 use Rattle.tables.proofs.ZeroLaws.{zeros-every, zeros-at}
+use Rattle.logic.proofs.Tests.{and-left, and-right, and-same}
 
 -- the same words before word n, the count aside
 abbrev pub Alike : ℕ → List ℕ → List ℕ → Type 0
 Alike n a b = (k : ℕ) → 1 ≤ k → k < n → getD a k 0 ≡ getD b k 0
 
 -- a test that counts only where another holds
-pub and-same : (p : Bool) {x y : Bool} → (p ≡ true → x ≡ y) → (p && x) ≡ (p && y)
-and-same true h = h refl
-and-same false h = refl
-
 zeros-same : (a b : List ℕ) (from n : ℕ) → ((k : ℕ) → k < n → getD a (from + k) 0 ≡ getD b (from + k) 0) → zeros a from n ≡ zeros b from n
 zeros-same a b from n same =
     sym (zeros-every a from n) ∙ every-same n _ _ (λ k l. ap (λ (w : ℕ). eqb w 0) (same k l)) ∙ zeros-every b from n

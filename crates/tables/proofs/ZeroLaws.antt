@@ -1,7 +1,7 @@
 -- The zeros at the front of a list, one by one: `zeros` is a walk along the list, so that it computes in as many steps as there are words.
 use Prim.Native.Nat.{ℕ, zero, suc, _+_, _<_}
 use mathlib.Core.Path.{_≡_, refl, sym, ap, ap₂, _∙_}
-use mathlib.Core.Bool.{Bool, true, false, _&&_}
+use mathlib.Core.Bool.{Bool, true, false, _&&_, and-true}
 use mathlib.Core.List.{List, [], _∷_}
 use lib.Dec.{eqb}
 use borrow.Author.Tests.{eqb-true, eq-eqb}
@@ -10,10 +10,6 @@ use lib.Seq.{getD-drop}
 use Rattle.tables.specs.Every.{every, zeros, zerosFront}
 use Rattle.tables.proofs.Laws.{every-at, every-is}
 
-and-one : (a : Bool) → (a && true) ≡ a
-and-one true = refl
-and-one false = refl
-
 and-three : (a b c : Bool) → (a && (b && c)) ≡ ((a && b) && c)
 and-three true b c = refl
 and-three false b c = refl
@@ -21,7 +17,7 @@ and-three false b c = refl
 front-more : (n : ℕ) (s : List ℕ) → zerosFront (suc n) s ≡ (zerosFront n s && eqb (getD s n 0) 0)
 unfolding zerosFront
 front-more zero [] = refl
-front-more zero (x ∷ s) = and-one (eqb x 0)
+front-more zero (x ∷ s) = and-true (eqb x 0)
 front-more (suc n) [] = refl
 front-more (suc n) (x ∷ s) = ap (λ (b : Bool). eqb x 0 && b) (front-more n s) ∙ and-three (eqb x 0) (zerosFront n s) (eqb (getD s n 0) 0)
 

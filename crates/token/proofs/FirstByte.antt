@@ -1,5 +1,5 @@
 -- A lexeme is of one kind by its first byte, and what is proved of each token that the reader takes. Assumes nothing.
-use mathlib.Core.Bool.{Bool, true, false, false≢true}
+use mathlib.Core.Bool.{Bool, true, false, false≢true, and-false, or-false}
 use mathlib.Core.List.{List, [], _∷_}
 use mathlib.Core.Path.{_≡_, refl, sym, ap, _∙_}
 use Prim.Native.Nat.{ℕ, zero, suc, _-_, _≤_, _<_}
@@ -13,7 +13,7 @@ use Rattle.token.specs.Sign.{longSigns, isSignByte}
 use Rattle.token.specs.Fair.{placeOf}
 use Rattle.token.specs.Lexeme.{some, isIdent, isDecimal, isInteger, isBitsLiteral, isSign, isLexeme, NoneLonger, Longest}
 use Rattle.token.specs.declared.Scanned.{Scanned}
-use Rattle.token.proofs.Bools.{and-false, or-false, within-low}
+use Rattle.token.proofs.Bools.{within-low}
 use Rattle.token.proofs.Table.{at}
 use Rattle.token.proofs.Lexemes.{none, noneFirst, not-one, no-entry}
 

@@ -1,5 +1,5 @@
 -- The reader passes over blanks and comments as the papers say them, and over nothing else. Assumes nothing.
-use mathlib.Core.Bool.{true, false, false≢true, _&&_}
+use mathlib.Core.Bool.{true, false, false≢true, _&&_, and-false}
 use mathlib.Core.List.{List, [], _∷_}
 use mathlib.Core.Logic.{_⊎_, inl, inr}
 use mathlib.Core.Path.{_≡_, refl, sym, ap, _∙_}
@@ -14,8 +14,9 @@ use Rattle.token.specs.Gap.{isBlank, Inside, gap, line, block, pair, gap
 use Rattle.token.specs.Scan.{scanAt}
 use Rattle.token.specs.Fair.{placeOf}
 use Rattle.token.specs.Passed.{LineTo, at-end, at-newline, line-on, BlockTo, closes, block-on, Passed, nothing, blank, line-comment, block-comment, Unclosed, Stops}
-use Rattle.token.proofs.Bools.{either-by, and-left, and-right, and-false}
+use Rattle.token.proofs.Bools.{either-by}
 use Rattle.token.proofs.Longest.{scan-place}
+use Rattle.logic.proofs.Tests.{and-left, and-right}
 
 -- what is to be shown of the place p that a reader reaches from i, by where it stands there
 Right : List ℕ → Inside → ℕ → ℕ → Type 0

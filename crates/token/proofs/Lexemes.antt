@@ -1,5 +1,5 @@
 -- Laws of slices: what a run, a table's entry and the first byte say of them. Assumes nothing.
-use mathlib.Core.Bool.{Bool, true, false, _&&_, not, false≢true}
+use mathlib.Core.Bool.{Bool, true, false, _&&_, not, false≢true, or-true}
 use mathlib.Core.List.{List, [], _∷_, map}
 use mathlib.Core.Path.{_≡_, refl, sym, ap, _∙_}
 use Prim.Native.Nat.{ℕ, zero, suc, _+_, _≤_, _<_}
@@ -10,10 +10,10 @@ use lib.Seq.{take-nil}
 use borrow.Author.Tests.{eqb-true, eq-eqb, ne-eqb}
 use Rattle.token.specs.Bytes.{same, begins, oneOf, firstTrue, firstThat, runFrom}
 use Rattle.token.specs.Lexeme.{many, entryOf}
-use Rattle.token.proofs.Bools.{and-left, and-right, or-true}
 use Rattle.token.proofs.Table.{both, both-left, both-right}
 use Rattle.token.proofs.Signs.{first-after}
 use Rattle.token.proofs.RunSteps.{run-from}
+use Rattle.logic.proofs.Tests.{and-left, and-right}
 
 -- ---- runs
 -- every byte of a run passes the test, and no longer slice is all of such bytes

@@ -14,11 +14,12 @@ use Rattle.token.specs.Word.{isLetter}
 use Rattle.token.specs.Scan.{isBit, badToken, bitsToken, bitsFrom}
 use Rattle.token.specs.Lexeme.{some, isDecimal, closesBits, isBitsLiteral, NoneLonger, Longest}
 use Rattle.token.specs.declared.Token.the-variants.{Bits}
-use Rattle.token.proofs.Bools.{either-by, and-left, and-right}
+use Rattle.token.proofs.Bools.{either-by}
 use Rattle.token.proofs.Table.{at}
 use Rattle.token.proofs.Laws.{byte-inside}
 use Rattle.token.proofs.RunSteps.{run-from, run-ahead}
 use Rattle.token.proofs.FirstByte.{not-true, bits-lexeme, Taken, longer-none}
+use Rattle.logic.proofs.Tests.{and-left, and-right}
 
 -- one byte of a run
 run-step : (test : ℕ → Bool) (x : ℕ) (s : List ℕ) (i k : ℕ) → runFrom test (x ∷ s) i ≡ i + suc k → (test x ≡ true) × (runFrom test s (i + 1) ≡ i + 1 + k)

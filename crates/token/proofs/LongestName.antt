@@ -12,11 +12,12 @@ use Rattle.token.specs.Bytes.{same, runFrom}
 use Rattle.token.specs.Word.{isLetter, isNameByte, reserved, wordOf}
 use Rattle.token.specs.Scan.{nameToken, nameFrom}
 use Rattle.token.specs.Lexeme.{many, some, isIdent, NoneLonger}
-use Rattle.token.proofs.Bools.{either-by, and-right}
+use Rattle.token.proofs.Bools.{either-by}
 use Rattle.token.proofs.Table.{at}
 use Rattle.token.proofs.RunSteps.{run-from, run-ahead}
 use Rattle.token.proofs.Lexemes.{run-many, run-longer, same-eq, same-self, first-holds, first-least}
 use Rattle.token.proofs.FirstByte.{name-lexeme, Taken, longer-none}
+use Rattle.logic.proofs.Tests.{and-right}
 
 word-is : (name : List ℕ) → wordOf name < 29 → name ≡ getD reserved (wordOf name) []
 unfolding wordOf reserved

@@ -1,5 +1,5 @@
 -- Numbers, in each radix, are the longest match. Assumes nothing.
-use mathlib.Core.Bool.{Bool, true, false, _&&_, _||_, false≢true}
+use mathlib.Core.Bool.{Bool, true, false, _&&_, _||_, false≢true, and-false, or-false}
 use mathlib.Core.List.{List, [], _∷_}
 use mathlib.Core.Logic.{inr, ⊎-elim}
 use mathlib.Core.Path.{_≡_, refl, sym, ap, _∙_}
@@ -15,12 +15,13 @@ use Rattle.token.specs.Word.{isLetter}
 use Rattle.token.specs.Number.{digitOf, isDigit, valueFrom, largest, prefixed, digitsOf}
 use Rattle.token.specs.Scan.{badToken, numberToken, numberFrom}
 use Rattle.token.specs.Lexeme.{many, some, isDecimal, isHexadecimal, isOctal, isInteger, valueOf, isLexeme, NoneLonger}
-use Rattle.token.proofs.Bools.{either, either-by, le-or-lt, and-left, and-right, and-false, or-false, within-low, within-high}
+use Rattle.token.proofs.Bools.{either, either-by, le-or-lt, within-low, within-high}
 use Rattle.token.proofs.Table.{at}
 use Rattle.token.proofs.Numbers.{hexadecimal, octal, decimal}
 use Rattle.token.proofs.RunSteps.{run-from, run-ahead}
 use Rattle.token.proofs.Lexemes.{run-many, run-longer, many-same, none}
 use Rattle.token.proofs.FirstByte.{not-true, number-lexeme, Taken, longer-none}
+use Rattle.logic.proofs.Tests.{and-left, and-right}
 
 -- the digits of each radix are those that 001 lists
 within-true : (a e x : ℕ) → a ≤ x → x ≤ e → within a e x ≡ true

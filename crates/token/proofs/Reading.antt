@@ -13,8 +13,8 @@ use Rattle.token.specs.Fair.{goesOn}
 use Rattle.token.specs.Tokens.{listed, tokensFrom, tokensAt, tokensOf, walked}
 use Rattle.token.specs.declared.Token.{Token}
 use Rattle.token.specs.declared.Scanned.{Scanned}
-use Rattle.token.proofs.Bools.{either}
 use Rattle.token.proofs.Laws.{scan-is, passes}
+use Rattle.token.proofs.Bools.{either}
 
 -- bytes that the token before takes are passed over
 passed-over : (s : List ℕ) (i k : ℕ) → k ≤ length s → tokensFrom s i k ≡ tokensFrom (drop k s) (i + k) 0

@@ -1,7 +1,7 @@
 -- `bits::values::encode_negative` meets its contract.
 use Rattle.bits.specs.Values.{encoded, inRange, encode}
 use Prim.Native.Nat.{_<_}
-use Rattle.bits.proofs.ValueLaws.{both, limit-most}
+use Rattle.bits.proofs.ValueLaws.{limit-most}
 use lib.Dec.{eqb}
 use lib.Pow.{pow-pos}
 use native.Mathlib.Omega.{arith}
@@ -9,6 +9,7 @@ use borrow.Author.Tests.{ltb-true}
 use borrow.Author.Needs.{needs}
 use Rattle.bits.proofs.values.encode_negative.Statement.{statement}
 use Rattle.bits.proofs.values.encode_negative.Tie as tie
+use Rattle.logic.proofs.Tests.{both}
 
 limit-requires : tie.Need-limit-requires
 limit-requires c κs = search needs

@@ -5,11 +5,11 @@ use lib.ListN.{length}
 use borrow.Author.Needs.{needs}
 use Rattle.syntax.specs.Text.{moreDeclarations}
 use Rattle.syntax.proofs.LoopSteps.{loop-full, turn-end, turn-on}
-use Rattle.syntax.proofs.TextSteps.{passed, failed}
 use Rattle.loader.specs.Judge.{judge, progressOf}
 use Rattle.loader.specs.Ready.{Ready}
 use Rattle.loader.proofs.declarations.more_declarations.Statement.{statement}
 use Rattle.loader.proofs.declarations.more_declarations.Tie as tie
+use Rattle.logic.proofs.Tests.{passed, failed}
 
 abbrev Inv-loop : tie.InvT-loop
 Inv-loop text parameters registers₀ variables₀ bits₀ held₀ pulled₀ bits1₀ held1₀ pulled1₀ all₀ room₀ registers variables bits held pulled bits1 held1 pulled1 all room =

@@ -3,12 +3,12 @@ use mathlib.Core.Path.{_∙_, sym}
 use native.Mathlib.Omega.{arith}
 use denote.Ref.{now}
 use borrow.Author.Needs.{needs}
-use Rattle.tables.proofs.Tests.{failed, passed}
 use Rattle.station.specs.Standing.{tablesOf}
 use Rattle.station.proofs.Laws.{no-fault}
 use Rattle.station.proofs.CallLaws.{begin-fault, begin-busy, begin-outside, begin-partless, begin-clear}
 use Rattle.station.proofs.begin.begin_fault.Statement.{statement}
 use Rattle.station.proofs.begin.begin_fault.Tie as tie
+use Rattle.logic.proofs.Tests.{failed, passed}
 
 fault-requires : tie.Need-fault-requires
 fault-requires c κs = search needs

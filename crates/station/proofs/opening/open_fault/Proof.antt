@@ -2,11 +2,11 @@
 use mathlib.Core.Path.{_∙_, sym}
 use borrow.Author.Tests.{lt-ltb, le-ltb}
 use borrow.Author.Needs.{needs}
-use Rattle.tables.proofs.Tests.{failed, passed}
 use Rattle.station.specs.Station.{openFault}
 use Rattle.station.proofs.Laws.{stops-first, stops-second, stops-third, goes-on}
 use Rattle.station.proofs.opening.open_fault.Statement.{statement}
 use Rattle.station.proofs.opening.open_fault.Tie as tie
+use Rattle.logic.proofs.Tests.{failed, passed}
 
 sound-requires : tie.Need-sound-requires
 sound-requires c κs = search needs

@@ -2,11 +2,11 @@
 use mathlib.Core.Path.{_∙_, sym, refl}
 use native.Mathlib.Omega.{arith}
 use borrow.Author.Needs.{needs}
-use Rattle.tables.proofs.Tests.{failed, passed, first-fails}
 use Rattle.station.specs.Standing.{allowed}
 use Rattle.station.proofs.Laws.{second-decides, due-variable}
 use Rattle.station.proofs.standing.is_allowed.Statement.{statement}
 use Rattle.station.proofs.standing.is_allowed.Tie as tie
+use Rattle.logic.proofs.Tests.{failed, passed, first-fails}
 
 enum-told : tie.Need-enum-told
 enum-told c = search needs

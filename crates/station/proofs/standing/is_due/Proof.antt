@@ -3,10 +3,10 @@ use mathlib.Core.Path.{sym}
 use native.Mathlib.Omega.{arith}
 use borrow.Author.Tests.{lt-ltb, le-ltb}
 use borrow.Author.Needs.{needs}
-use Rattle.tables.proofs.Tests.{failed, passed, first-fails, second-fails, third-decides}
 use Rattle.station.specs.Standing.{due}
 use Rattle.station.proofs.standing.is_due.Statement.{statement}
 use Rattle.station.proofs.standing.is_due.Tie as tie
+use Rattle.logic.proofs.Tests.{failed, passed, first-fails, second-fails, third-decides}
 
 word-requires : tie.Need-word-requires
 word-requires c κs = search needs

@@ -4,9 +4,10 @@ use lib.ListN.{length}
 use borrow.Author.Needs.{needs}
 use Rattle.syntax.specs.Text.{idle, bare, moreDeclarations, outlined}
 use Rattle.syntax.proofs.LoopSteps.{loop-full, turn-end, turn-on}
-use Rattle.syntax.proofs.TextSteps.{passed, failed, bare-is}
+use Rattle.syntax.proofs.TextSteps.{bare-is}
 use Rattle.syntax.proofs.text.more_declarations.Statement.{statement}
 use Rattle.syntax.proofs.text.more_declarations.Tie as tie
+use Rattle.logic.proofs.Tests.{passed, failed}
 
 abbrev Inv-loop : tie.InvT-loop
 Inv-loop text all₀ room₀ all room = moreDeclarations idle text (length text) (bare all₀) ≡ moreDeclarations idle text room (bare all)

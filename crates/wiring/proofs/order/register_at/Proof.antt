@@ -7,11 +7,11 @@ use denote.Ref.{now}
 use lib.Arith.{lt-of-le-ne}
 use lib.ListN.{List·getD-eq-default, length}
 use borrow.Author.Needs.{needs}
-use Rattle.tables.proofs.Tests.{failed, passed}
 use Rattle.wiring.specs.Order.{registersTo}
 use Rattle.wiring.proofs.OrderLaws.{registers-none, registers-old, length-new, access-found}
 use Rattle.wiring.proofs.order.register_at.Statement.{statement}
 use Rattle.wiring.proofs.order.register_at.Tie as tie
+use Rattle.logic.proofs.Tests.{failed, passed}
 
 abbrev Inv-loop : tie.InvT-loop
 Inv-loop variables part n k₀ seen₀ count k seen = (k ≤ count) × (count ≤ 8) × (count ≡ part .count) × (seen ≤ n) × (seen ≤ k) × (seen ≡ length (registersTo variables part k))

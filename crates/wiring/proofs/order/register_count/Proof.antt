@@ -6,11 +6,11 @@ use native.Mathlib.Omega.{arith}
 use denote.Ref.{now}
 use borrow.Author.Needs.{needs}
 use lib.ListN.{length}
-use Rattle.tables.proofs.Tests.{failed, passed}
 use Rattle.wiring.specs.Order.{registersTo}
 use Rattle.wiring.proofs.OrderLaws.{registers-none, registers-old, length-new}
 use Rattle.wiring.proofs.order.register_count.Statement.{statement}
 use Rattle.wiring.proofs.order.register_count.Tie as tie
+use Rattle.logic.proofs.Tests.{failed, passed}
 
 abbrev Inv-loop : tie.InvT-loop
 Inv-loop variables part k₀ seen₀ count k seen = (k ≤ count) × (count ≤ 8) × (count ≡ part .count) × (seen ≤ k) × (seen ≡ length (registersTo variables part k))
