@@ -2,7 +2,7 @@
 -- Assumes nothing.
 use Prim.Native.Nat.{ℕ, _+_}
 use mathlib.Core.Path.{_≡_, sym, ap, _∙_, subst}
-use mathlib.Core.Bool.{true, false}
+use mathlib.Core.Bool.{false}
 use mathlib.Core.List.{List, []}
 use lib.Dec.{leb}
 use lib.ListN.{replicate}
@@ -12,10 +12,10 @@ use Rattle.syntax.specs.declared.parameter.Parameter.{Parameter}
 use Rattle.syntax.specs.declared.register.Register.{Register}
 use Rattle.syntax.specs.declared.variable.Variable.{Variable}
 use Rattle.syntax.specs.Reader.{fixedAfter}
-use Rattle.syntax.specs.Parameter.{ParameterRead, extraName, parameterAfter}
+use Rattle.syntax.specs.Parameter.{ParameterRead, parameterAfter}
 use Rattle.syntax.specs.Register.{registerAfter}
 use Rattle.syntax.specs.Variable.{VariableRead, variableAfter}
-use Rattle.syntax.specs.Text.{Declaration, Progress, aVariable, taken, counted, extraWord, parameterWith, registerWith, variableWith}
+use Rattle.syntax.specs.Text.{Declaration, Progress, aVariable, taken, counted, parameterWith, registerWith, variableWith}
 use Rattle.tables.specs.Words.{countOf}
 use Rattle.rules.specs.declared.declared.Judging.{Judging}
 use Rattle.rules.specs.State.{State, stateOf, unlessStopped}
@@ -54,11 +54,6 @@ module _ (text : List ℕ) (l : Loading) (ps rs vs : List ℕ) where
   abbrev next-parameter : State → Step → Progress State
   next-parameter x s = record { parameters = l .parameters + 1; registers = l .registers; variables = l .variables; made = x; step = s }
 
-  pub parameter-extra : {extra : Step} {r : Loading} → leb 16 (l .parameters) ≡ true → extra ≡ extraName text (l .step) → r ≡ movedBy l extra
-      → progressOf r ps rs vs ≡ parameterWith (judge text) text here
-  unfolding parameterWith progressOf
-  parameter-extra full e m = moved-to l _ ps rs vs m ∙ rw (full, e)
-
   module _ {one : Parameter} (room : leb 16 (l .parameters) ≡ false) (e : one ≡ parameterAfter text (replicate 32 0) (l .step) .parameter) where
     pub parameter-stops : {r : Loading} {number place : ℕ} → one .step ≡ Refused number place → r ≡ movedBy l (one .step)
         → progressOf r ps rs vs ≡ parameterWith (judge text) text here
@@ -75,11 +70,6 @@ module _ (text : List ℕ) (l : Loading) (ps rs vs : List ℕ) where
         (ap (λ (x : State). next-parameter x (one .step)) s ∙ ap (next-parameter (unlessStopped state (judgeParameter text state _))) goes ∙ sym (taken-goes text here _ goes))
 
   -- ---- a register
-  pub register-extra : {extra : Step} {r : Loading} → leb 64 (l .registers) ≡ true → extra ≡ extraWord text 529 (l .step) → r ≡ movedBy l extra
-      → progressOf r ps rs vs ≡ registerWith (judge text) text here
-  unfolding registerWith progressOf
-  register-extra full e m = moved-to l _ ps rs vs m ∙ rw (full, e)
-
   module _ {one : Register} {end : Step} (room : leb 64 (l .registers) ≡ false) (e : one ≡ registerAfter text (l .step)) (f : end ≡ fixedAfter text 315 (one .step)) where
     pub register-stops : {r : Loading} {number place : ℕ} → end ≡ Refused number place → r ≡ movedBy l end → progressOf r ps rs vs ≡ registerWith (judge text) text here
     unfolding registerWith taken progressOf
@@ -92,11 +82,6 @@ module _ (text : List ℕ) (l : Loading) (ps rs vs : List ℕ) where
     register-goes qs j goes s = rw (room, ← e, ← f, goes, s)
 
   -- ---- a variable
-  pub variable-extra : {extra : Step} {r : Loading} → leb 128 (l .variables) ≡ true → extra ≡ extraWord text 537 (l .step) → r ≡ movedBy l extra
-      → progressOf r ps rs vs ≡ variableWith (judge text) text here
-  unfolding variableWith progressOf
-  variable-extra full e m = moved-to l _ ps rs vs m ∙ rw (full, e)
-
   module _ {one : Variable} {end : Step} (room : leb 128 (l .variables) ≡ false)
       (e : one ≡ variableAfter text (replicate 40 0) (replicate 40 0) (l .step) .variable) (f : end ≡ fixedAfter text 315 (one .step)) where
     pub variable-stops : {r : Loading} {number place : ℕ} → end ≡ Refused number place → r ≡ movedBy l end → progressOf r ps rs vs ≡ variableWith (judge text) text here

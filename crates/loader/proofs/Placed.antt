@@ -22,6 +22,7 @@ use Rattle.rules.specs.Names.{indexOf}
 use Rattle.rules.specs.Words.{wordOf, appended}
 use Rattle.rules.specs.Register.{naturalOf, isNatural, hasPart, portOf, partEntry, portFound, partWords, registerEntry, badOffset, registerWritten}
 use Rattle.rules.proofs.FaultLaws.{or-none, if-none, only-none}
+use Rattle.rules.proofs.WordLaws.{word-itself}
 use Rattle.rules.proofs.AppendLaws.{appended-word}
 use Rattle.rules.proofs.RegisterShape as R
 use Rattle.logic.proofs.Tests.{and-left, and-right}
@@ -34,10 +35,6 @@ word-is a n m l = go (leb a 4294967295) refl
     go : (b : Bool) → leb a 4294967295 ≡ b → min a 4294967295 ≡ a
     go true e = min-eq-left (leb-true a 4294967295 e)
     go false e = let z : min a 4294967295 ≡ 4294967295 = min-eq-right (le-of-lt (leb-false a 4294967295 e)) in absurd (omega arith)
-
-word-few : (a : ℕ) → a ≤ 255 → wordOf a ≡ a
-unfolding wordOf
-word-few a l = min-eq-left (omega arith)
 
 some-fails : (n : ℕ) (p : ℕ → Bool) → ((k : ℕ) → k < n → p k ≡ false) → some n p ≡ false
 unfolding some
@@ -91,7 +88,7 @@ part-placed ps t at index offset true good few shape f w h =
     let below = ltb-true (wordOf index) (countOf ps) (and-left (ltb (wordOf index) (countOf ps)) _ there) in
     let i : wordOf index ≡ index = word-is index (countOf ps) (omega arith) below in
     let few-offset = offset-few ps index offset (every-at (countOf ps) (parameterGood ps) good index (omega arith)) h in
-    rw (p, words .0, words .1, i, word-few offset few-offset) h
+    rw (p, words .0, words .1, i, word-itself offset (omega (arith, few-offset))) h
 
 -- the three first words of each part, in the fifteen of an entry
 module _ (x y z i o j q : ℕ) (m l : Mask) where

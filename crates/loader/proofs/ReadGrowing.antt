@@ -6,8 +6,8 @@ use mathlib.Core.Path.{_≡_, refl, sym, ap, _∙_, subst}
 use mathlib.Core.Bool.{Bool, true, false}
 use mathlib.Core.List.{List}
 use lib.Dec.{eqb, leb}
-use lib.ListN.{length}
-use Rattle.token.specs.Kind.{kindOf}
+use lib.ListN.{length, replicate}
+use Rattle.token.specs.Kind.{pick, kindOf}
 use Rattle.token.specs.Scan.{scanAt}
 use Rattle.syntax.specs.declared.reader.Step.{Step}
 use Rattle.syntax.specs.declared.reader.Step.the-variants.{At, Refused}
@@ -17,9 +17,9 @@ use Rattle.syntax.specs.KindNames.{sign, end-kind, 'register', 'variable'}
 use Rattle.syntax.specs.Limits.{mostRegisters, mostVariables}
 use Rattle.syntax.specs.Reader.{seenAt, placeAt, fixedAfter, unexpected}
 use Rattle.syntax.specs.Parameter.{ParameterRead, tooMany}
-use Rattle.syntax.specs.Variable.{VariableRead}
-use Rattle.syntax.specs.Text.{aDevice, aParameter, aRegister, aVariable, Progress, begins, extraWord, movedTo, counted, taken, registerWith, variableWith, declarationWith, moreDeclarations, declarationsWith, readingWith}
-use Rattle.rules.specs.Fault.{isFault}
+use Rattle.syntax.specs.Register.{registerAfter}
+use Rattle.syntax.specs.Variable.{VariableRead, variableAfter}
+use Rattle.syntax.specs.Text.{Declaration, aDevice, aParameter, aRegister, aVariable, Progress, begins, extraWord, movedTo, counted, taken, registerWith, variableWith, declarationWith, moreDeclarations, declarationsWith, readingWith}
 use Rattle.rules.specs.State.{State, unlessStopped}
 use Rattle.rules.specs.Parameter.{judgeDevice, judgeParameter}
 use Rattle.rules.specs.Register.{judgeRegister}
@@ -29,7 +29,7 @@ use Rattle.syntax.proofs.LoopSteps.{loop-keeps}
 use Rattle.rules.proofs.ParameterShape.{Sets}
 use Rattle.loader.proofs.PieceCounts.{WellRead}
 use Rattle.loader.proofs.ReadKeeps.{parameters-keep, declarations-keep}
-use Rattle.rules.proofs.FaultLaws.{no-number, has-number}
+use Rattle.rules.proofs.JudgingLaws.{unstopped}
 use Rattle.rules.proofs.Growing.{Growing, grow-parameter, grow-register}
 use Rattle.loader.proofs.GrowingVariable.{grow-variable}
 
@@ -45,15 +45,6 @@ record Heading (p : Progress State) : Type 0 where
   reached : Reached p
   no-register : p .registers ≡ 0
   no-variable : p .variables ≡ 0
-
--- a state without a fault was not stopped before
-unstopped : (s next : State) → unlessStopped s next .fault .number ≡ 0 → (s .fault .number ≡ 0) × (unlessStopped s next ≡ next)
-unfolding unlessStopped
-unstopped s next h = go (isFault (s .fault)) refl
-  where
-    go : (b : Bool) → isFault (s .fault) ≡ b → (s .fault .number ≡ 0) × (unlessStopped s next ≡ next)
-    go true e = absurd (has-number (s .fault) e (sym (rw e) ∙ h))
-    go false e = (no-number (s .fault) e, rw e)
 
 -- what an unstopped judging makes of growing tables
 grown-by : {p r v p′ r′ v′ : ℕ} (s next : State) → (s .fault .number ≡ 0 → Growing p r v s)
@@ -171,47 +162,29 @@ module _ (text : List ℕ) where
   many-went place (At next) = refl
   many-went place (Refused number at) = refl
 
-  some-extra : (p : Progress State) (kind : ℕ) → Some (movedTo p (extraWord text kind (p .step)))
-  unfolding movedTo extraWord
-  some-extra p kind = omega (arith, many-went (placeAt text (p .step)) (fixedAfter text kind (p .step)))
-
-  some-refused : (p : Progress State) (number place : ℕ) → Some (movedTo p (Refused number place))
-  unfolding movedTo
-  some-refused p number place = omega arith
-
-  register-taken : (p : Progress State) (d : Register) (s : Step) → Some (taken (judge text) p (aRegister d) s)
-  unfolding taken counted
-  register-taken p d (At next) = omega arith
-  register-taken p d (Refused number place) = some-refused p number place
-
-  variable-taken : (p : Progress State) (d : VariableRead) (s : Step) → Some (taken (judge text) p (aVariable d) s)
-  unfolding taken counted
-  variable-taken p d (At next) = omega arith
-  variable-taken p d (Refused number place) = some-refused p number place
-
-  some-register : (p : Progress State) → Some (registerWith (judge text) text p)
-  unfolding registerWith
-  some-register p = go (leb mostRegisters (p .registers)) refl
-    where
-      go : (b : Bool) → leb mostRegisters (p .registers) ≡ b → Some (registerWith (judge text) text p)
-      go true e = rw e (some-extra p 'register')
-      go false e = rw e (register-taken p _ _)
-
-  some-variable : (p : Progress State) → Some (variableWith (judge text) text p)
-  unfolding variableWith
-  some-variable p = go (leb mostVariables (p .variables)) refl
-    where
-      go : (b : Bool) → leb mostVariables (p .variables) ≡ b → Some (variableWith (judge text) text p)
-      go true e = rw e (some-extra p 'variable')
-      go false e = rw e (variable-taken p _ _)
+  -- one declaration more: one too many stops the reading, and so does one that is not whole
+  some-next : (p : Progress State) (full : Bool) (kind : ℕ) (d : Declaration) (s : Step) → ((next : ℕ) → Some (counted (judge text) p d next))
+      → Some (pick full (movedTo p (extraWord text kind (p .step))) (taken (judge text) p d s))
+  unfolding movedTo extraWord taken
+  some-next p true kind d s one = omega (arith, many-went (placeAt text (p .step)) (fixedAfter text kind (p .step)))
+  some-next p false kind d (At next) one = one next
+  some-next p false kind d (Refused number place) one = omega arith
 
   some-declaration : (p : Progress State) → Some (declarationWith (judge text) text p)
-  unfolding declarationWith
+  unfolding declarationWith registerWith variableWith counted
   some-declaration p = go (eqb (seenAt text (p .step) .kind) 'register') refl
     where
+      register : Register
+      register = registerAfter text (p .step)
+
+      variable : VariableRead
+      variable = variableAfter text (replicate 40 0) (replicate 40 0) (p .step)
+
       go : (b : Bool) → eqb (seenAt text (p .step) .kind) 'register' ≡ b → Some (declarationWith (judge text) text p)
-      go true e = rw e (some-register p)
-      go false e = rw e (some-variable p)
+      go true e =
+          rw e (some-next p (leb mostRegisters (p .registers)) 'register' (aRegister register) (fixedAfter text (sign ";") (register .step)) (λ next. omega arith))
+      go false e =
+          rw e (some-next p (leb mostVariables (p .variables)) 'variable' (aVariable variable) (fixedAfter text (sign ";") (variable .variable .step)) (λ next. omega arith))
 
   some-moved : (p : Progress State) (kind : ℕ) → Some p → Some (movedTo p (fixedAfter text kind (p .step)))
   unfolding movedTo

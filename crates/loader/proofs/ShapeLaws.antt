@@ -2,7 +2,6 @@
 -- Assumes nothing.
 use Prim.Native.Nat.{ℕ, zero, suc, _+_, _-_, _*_, _≤_, _<_}
 use native.Mathlib.Omega.{arith}
-use native.Mathlib.Nat.{min-eq-left}
 use mathlib.Core.Path.{_≡_, refl, sym, ap, _∙_, subst}
 use mathlib.Core.Bool.{Bool, true, false, _&&_, _||_, cond, false≢true, or-true}
 use mathlib.Core.List.{List, _∷_, _++_}
@@ -21,7 +20,7 @@ use Rattle.rules.specs.Words.{wordOf, written, appended}
 use Rattle.rules.specs.Lists.{pieceWords, piecesOn, piecesOf, partWords}
 use Rattle.rules.specs.Variable.{flagOf, triggers, headWords, withVariable}
 use Rattle.rules.proofs.AppendLaws.{length-appended, appended-word, appended-added}
-use Rattle.rules.proofs.WordLaws.{appended-three}
+use Rattle.rules.proofs.WordLaws.{word-itself, appended-three}
 use Rattle.rules.proofs.WrittenLaws.{length-written, written-above}
 use Rattle.logic.proofs.Tests.{and-same}
 
@@ -73,10 +72,6 @@ pub record Listed (count : ℕ) (words : List ℕ) : Type 0 where
   pub long : length words ≡ 24
   pub blank : (i : ℕ) → 3 * count ≤ i → getD words i 0 ≡ 0
 
-word-small : (n : ℕ) → n ≤ 8 → wordOf n ≡ n
-unfolding wordOf
-word-small n l = min-eq-left (omega arith)
-
 pub flag-small : (b : Bool) → leb (flagOf b) 1 ≡ true
 unfolding flagOf
 flag-small true = refl
@@ -89,7 +84,7 @@ given-shape trigger count words t l =
     zeros-are (1 ∷ trigger ∷ count ∷ words) (3 + 3 * count) (24 - 3 * count) (λ k h.
     let q : 3 + 3 * count + k ≡ suc (suc (suc (3 * count + k))) = omega arith in
     ap (λ (i : ℕ). getD (1 ∷ trigger ∷ count ∷ words) i 0) q ∙ l .blank (3 * count + k) (omega arith)) in
-    rw (word-small count (l .few), le-leb count 8 (l .few), le-leb 1 count (l .some), t) z
+    rw (word-itself count (omega (arith, l .few)), le-leb count 8 (l .few), le-leb 1 count (l .some), t) z
 
 module _ (d : Variable) (first second : List ℕ) (trigger from : ℕ) (t : leb trigger 1 ≡ true) (f : Listed (d .count) first)
     (s : eqb from 2 ≡ true → Listed (d .rest .count) second) where
@@ -177,21 +172,13 @@ module _ (vs : List ℕ) (d : Variable) (first second : List ℕ) (read write : 
           let e : variablePart at 1 + k ≡ variableAt at + (length (headWords d ++ reads) + k) = omega (arith, front-long) in
           ap (λ (i : ℕ). getD entered i 0) e ∙ entry-word (length (headWords d ++ reads) + k) (omega (arith, front-long)) ∙ getD-append-add (headWords d ++ reads) writes k 0
 
-      present-read : present entered (variablePart at 0) ≡ eqb (getD reads 0 0) 1
-      present-read = let e : variablePart at 0 ≡ variablePart at 0 + 0 = omega arith in
-          ap (λ (i : ℕ). present entered i) e ∙ ap (λ (n : ℕ). eqb n 1) (read-word 0 (omega arith))
-
-      present-write : present entered (variablePart at 1) ≡ eqb (getD writes 0 0) 1
-      present-write = let e : variablePart at 1 ≡ variablePart at 1 + 0 = omega arith in
-          ap (λ (i : ℕ). present entered i) e ∙ ap (λ (n : ℕ). eqb n 1) (write-word 0 (omega arith))
-
       either-there : (eqb read 1 || eqb read 2 || (eqb write 1 || eqb write 2)) ≡ true → (present entered (variablePart at 0) || present entered (variablePart at 1)) ≡ true
       either-there h = go (eqb read 1 || eqb read 2) refl h
         where
           go : (b : Bool) → (eqb read 1 || eqb read 2) ≡ b → (b || (eqb write 1 || eqb write 2)) ≡ true
               → (present entered (variablePart at 0) || present entered (variablePart at 1)) ≡ true
-          go true e h = rw (present-read, part-there d first second _ read e)
-          go false e h = rw (present-write, part-there d first second _ write h) (or-true (present entered (variablePart at 0)))
+          go true e h = rw (first-same entered reads (variablePart at 0) read-word, part-there d first second _ read e)
+          go false e h = rw (first-same entered writes (variablePart at 1) write-word, part-there d first second _ write h) (or-true (present entered (variablePart at 0)))
 
       -- the shape of the whole entry
       pub entry-shape : leb (d .kind) 2 ≡ true → variablePartShape reads 0 ≡ true → variablePartShape writes 0 ≡ true

@@ -2,7 +2,6 @@
 -- Assumes nothing.
 use Prim.Native.Nat.{ℕ, _+_, _*_, _≤_, _<_}
 use native.Mathlib.Omega.{arith}
-use native.Mathlib.Nat.{min-eq-left}
 use mathlib.Core.Path.{_≡_, sym, _∙_, subst}
 use mathlib.Core.List.{List}
 use lib.ListN.{length, getD, length-set}
@@ -10,6 +9,7 @@ use lib.Seq.{getD-set-same, getD-set-other}
 use Rattle.tables.specs.Tables.{countOf}
 use Rattle.tables.proofs.Growth.{Added}
 use Rattle.rules.specs.Words.{wordOf, written, appended}
+use Rattle.rules.proofs.WordLaws.{word-itself}
 use Rattle.rules.proofs.FrameLaws.{written-below}
 use Rattle.rules.proofs.WrittenLaws.{length-written, written-at, written-above}
 
@@ -28,10 +28,10 @@ module _ (stride : ℕ) (t words : List ℕ) where
   length-appended = length-set stored 0 count ∙ length-written t at words
 
   appended-count : 0 < length t → countOf t < 4294967295 → countOf (appended stride t words) ≡ countOf t + 1
-  unfolding appended wordOf
+  unfolding appended
   appended-count l h =
       getD-set-same stored 0 count 0 (subst (λ (n : ℕ). 0 < n) (sym (length-written t at words)) l)
-      ∙ min-eq-left (omega arith)
+      ∙ word-itself (countOf t + 1) (omega arith)
 
   -- the words of the new entry
   pub appended-word : at + length words ≤ length t → (k : ℕ) → k < length words → getD (appended stride t words) (at + k) 0 ≡ getD words k 0

@@ -53,26 +53,24 @@ found-none text table stride name {i} {n} l g e h =
     let q : i ≡ n = omega arith in
     rw (← e, ← q, h, le-ltb i i (omega arith))
 
+-- what does not change past the length of a list, at a number held to that length
+held-inside : (f : ℕ → List ℕ) (n most : ℕ) → (most ≤ n → f most ≡ f n) → f (min n most) ≡ f n
+held-inside f n most past = go (leb n most) refl
+  where
+    go : (b : Bool) → leb n most ≡ b → f (min n most) ≡ f n
+    go true h = ap f (min-eq-left (leb-true n most h))
+    go false h = let l = le-of-lt (leb-false n most h) in ap f (min-eq-right l) ∙ past l
+
 -- a part of a text whose ends are held inside it
-take-min : (n : ℕ) (l : List ℕ) → take (min n (length l)) l ≡ take n l
-take-min n l = go (leb n (length l)) refl
-  where
-    go : (b : Bool) → leb n (length l) ≡ b → take (min n (length l)) l ≡ take n l
-    go true h = rw (min-eq-left (leb-true n (length l) h))
-    go false h = rw (min-eq-right (le-of-lt (leb-false n (length l) h))) (take-length l ∙ sym (take-all n l (le-of-lt (leb-false n (length l) h))))
-
-drop-min : (n : ℕ) (l : List ℕ) → drop (min n (length l)) l ≡ drop n l
-drop-min n l = go (leb n (length l)) refl
-  where
-    go : (b : Bool) → leb n (length l) ≡ b → drop (min n (length l)) l ≡ drop n l
-    go true h = rw (min-eq-left (leb-true n (length l) h))
-    go false h = rw (min-eq-right (le-of-lt (leb-false n (length l) h))) (drop-length l ∙ sym (drop-of-length-le l (le-of-lt (leb-false n (length l) h))))
-
 pub part-of : (text : List ℕ) (place extent : ℕ) {start more : ℕ} → start ≡ min place (length text) → more ≡ min extent (length text - start)
     → take (start + more - start) (drop start text) ≡ take extent (drop place text)
 part-of text place extent {start} {more} s m =
-    let e : start + more - start ≡ more = omega arith in
-    rw (e, m, ← length-drop start text, take-min, s, drop-min)
+    let rest = drop start text in
+    let e : start + more - start ≡ min extent (length rest) = omega (arith, m, length-drop start text) in
+    ap (λ (n : ℕ). take n rest) e
+    ∙ held-inside (λ n. take n rest) extent (length rest) (λ l. take-length rest ∙ sym (take-all extent rest l))
+    ∙ ap (λ (n : ℕ). take extent (drop n text)) s
+    ∙ ap (take extent) (held-inside (λ n. drop n text) place (length text) (λ l. drop-length text ∙ sym (drop-of-length-le text l)))
 
 begins-part : (name s : List ℕ) → begins name (take (length name) s) ≡ begins name s
 unfolding begins

@@ -2,7 +2,6 @@
 -- Assumes nothing.
 use Prim.Native.Nat.{ℕ, suc, _+_, _-_, _*_, _≤_, _<_}
 use native.Mathlib.Omega.{arith}
-use native.Mathlib.Nat.{min-eq-left}
 use mathlib.Core.Path.{_≡_, refl, ap, _∙_}
 use mathlib.Core.Bool.{Bool, true, false}
 use mathlib.Core.List.{List}
@@ -16,9 +15,10 @@ use Rattle.syntax.specs.Parameter.{Listed, ParameterRead, stored, rangeAfter, n
 use Rattle.tables.specs.Words.{countOf, rangeCount, parameterAt}
 use Rattle.tables.specs.Rules.{parameterShape}
 use Rattle.tables.proofs.ZeroLaws.{zeros-are}
-use Rattle.rules.specs.Words.{wordOf, appended}
+use Rattle.rules.specs.Words.{appended}
 use Rattle.rules.specs.Parameter.{parameterEntry}
 use Rattle.syntax.proofs.LoopSteps.{loop-keeps}
+use Rattle.rules.proofs.WordLaws.{word-itself}
 use Rattle.rules.proofs.AppendLaws.{appended-word}
 
 -- n ranges in a table of 32 words, zero behind them
@@ -96,6 +96,10 @@ parameter-sets text s =
     let r = set-read text _ in
     record { some = r .some; few = r .few; long = r .ranged .long; blank = r .ranged .blank }
 
+pub entry-long : (d : ParameterRead) → Sets d → length (parameterEntry d) ≡ 36
+unfolding parameterEntry
+entry-long d sets = ap (λ (n : ℕ). suc (suc (suc (suc n)))) (sets .long)
+
 module _ (ps : List ℕ) (d : ParameterRead) (sets : Sets d) (fits : 36 * countOf ps + 37 ≤ length ps) where
   abbrev at : ℕ
   at = parameterAt (countOf ps)
@@ -103,16 +107,12 @@ module _ (ps : List ℕ) (d : ParameterRead) (sets : Sets d) (fits : 36 * countO
   abbrev with-entry : List ℕ
   with-entry = appended 36 ps (parameterEntry d)
 
-  pub entry-long : length (parameterEntry d) ≡ 36
-  unfolding parameterEntry
-  entry-long = ap (λ (n : ℕ). suc (suc (suc (suc n)))) (sets .long)
-
   word : (k : ℕ) → k < 36 → getD with-entry (at + k) 0 ≡ getD (parameterEntry d) k 0
-  word k l = appended-word 36 ps (parameterEntry d) (omega (arith, entry-long)) k (omega (arith, entry-long))
+  word k l = appended-word 36 ps (parameterEntry d) (omega (arith, entry-long d sets)) k (omega (arith, entry-long d sets))
 
   counted : rangeCount with-entry (countOf ps) ≡ d .parameter .ranges
-  unfolding parameterEntry wordOf
-  counted = word 3 (omega arith) ∙ min-eq-left (omega (arith, sets .few))
+  unfolding parameterEntry
+  counted = word 3 (omega arith) ∙ word-itself (d .parameter .ranges) (omega (arith, sets .few))
 
   blank-behind : (k : ℕ) → k < 32 - 2 * d .parameter .ranges → getD with-entry (at + 4 + 2 * d .parameter .ranges + k) 0 ≡ 0
   unfolding parameterEntry

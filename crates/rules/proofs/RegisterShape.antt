@@ -2,7 +2,7 @@
 -- Assumes nothing.
 use Prim.Native.Nat.{ℕ, zero, suc, _+_, _-_, _*_, _/_, _≤_, _<_, _^_}
 use native.Mathlib.Omega.{arith}
-use native.Mathlib.Nat.{min-eq-left, min-le-left}
+use native.Mathlib.Nat.{min-le-left}
 use mathlib.Core.Path.{_≡_, refl, sym, ap, ap₂, _∙_}
 use mathlib.Core.Bool.{Bool, true, false, _&&_, _||_, false≢true}
 use mathlib.Core.List.{List, [], _∷_}
@@ -12,8 +12,8 @@ use lib.ListN.{length, getD, length-append, List·getD-append}
 use lib.Seq.{getD-append-add}
 use borrow.Author.Tests.{eq-eqb, eqb-true, le-leb, lt-ltb, ltb-true}
 use Rattle.bits.specs.Bits.{bit}
-use Rattle.bits.proofs.BitLaws.{number-lt, bit-number, bits-equal, bit-over}
-use Rattle.bits.proofs.MaskLaws.{bit-and}
+use Rattle.bits.proofs.BitLaws.{number-lt, bit-number, bits-equal}
+use Rattle.bits.proofs.MaskLaws.{bit-and, bit-none}
 use Rattle.syntax.specs.declared.register.Register.{Register}
 use Rattle.tables.specs.Every.{firstOf}
 use Rattle.tables.specs.Words.{countOf, present, registerAt, registerPart}
@@ -21,14 +21,15 @@ use Rattle.tables.specs.Rules.{registerPartShape, registerShape}
 use Rattle.tables.proofs.ZeroLaws.{zeros-are}
 use Rattle.rules.specs.declared.mask.Element.{Element}
 use Rattle.rules.specs.declared.mask.Element.the-variants.{Dot, Fixed, One}
-use Rattle.rules.specs.declared.mask.Mask.{Mask}
 use Rattle.rules.specs.State.{State}
 use Rattle.rules.specs.Words.{wordOf, appended}
 use Rattle.rules.specs.Names.{isNamed, heldOf, foundBelow, foundIn, isNothing, indexOf}
 use Rattle.rules.specs.Mask.{isElement, elements, maskOf}
 use Rattle.rules.specs.Register.{hasPart, portOf, partMask, partEntry, portFound, partWords, registerEntry, unknownPort, registerWritten}
 use Rattle.rules.proofs.FaultLaws.{or-none, if-none, only-none}
+use Rattle.rules.proofs.WordLaws.{word-itself}
 use Rattle.rules.proofs.AppendLaws.{appended-word}
+use Rattle.rules.proofs.OffsetLaws.{part-length}
 
 -- ---- masks
 -- no byte is a dot and fixed; what is 1 is fixed
@@ -61,13 +62,10 @@ module _ (mask : List ℕ) where
       → bit b (bitAnd (elements mask m) (elements mask n)) ≡ (isElement m (getD mask (8 - b) 0) && isElement n (getD mask (8 - b) 0))
   both-bits m n b l = bit-and b (elements mask m) (elements mask n) ∙ ap₂ _&&_ (element-bit m b l) (element-bit n b l)
 
-  no-bit : (b : ℕ) → bit b 0 ≡ false
-  no-bit b = bit-over 0 b 0 (omega arith) (omega arith)
-
   dots-apart : bitAnd (elements mask Dot) (elements mask Fixed) ≡ 0
   dots-apart =
       bits-equal 8 _ 0 (and-lt 8 _ _ (small Dot) (small Fixed)) (omega arith)
-      (λ b l. both-bits Dot Fixed b l ∙ dot-apart (getD mask (8 - b) 0) ∙ sym (no-bit b))
+      (λ b l. both-bits Dot Fixed b l ∙ dot-apart (getD mask (8 - b) 0) ∙ sym (bit-none b))
 
   ones-inside : bitAnd (elements mask One) (elements mask Fixed) ≡ elements mask One
   ones-inside =
@@ -80,10 +78,10 @@ module _ (ps t : List ℕ) (at index offset : ℕ) (mask : List ℕ) where
   given = 1 ∷ wordOf index ∷ wordOf offset ∷ maskOf mask .dots ∷ maskOf mask .fixed ∷ maskOf mask .ones ∷ []
 
   there : ((k : ℕ) → k < 6 → getD t (at + k) 0 ≡ getD given k 0) → index < countOf ps → countOf ps ≤ 16 → registerPartShape ps t at ≡ true
-  unfolding registerPartShape maskOf wordOf
+  unfolding registerPartShape maskOf
   there same l few =
       let first : getD t at 0 ≡ 1 = (let e : at ≡ at + 0 = omega arith in ap (λ (i : ℕ). getD t i 0) e) ∙ same 0 (omega arith) in
-      let port : getD t (at + 1) 0 ≡ index = same 1 (omega arith) ∙ min-eq-left (omega arith) in
+      let port : getD t (at + 1) 0 ≡ index = same 1 (omega arith) ∙ word-itself index (omega arith) in
       let dots : getD t (at + 3) 0 ≡ elements mask Dot = same 3 (omega arith) in
       let fixed : getD t (at + 4) 0 ≡ elements mask Fixed = same 4 (omega arith) in
       let ones : getD t (at + 5) 0 ≡ elements mask One = same 5 (omega arith) in
@@ -148,11 +146,6 @@ part-judged ps t at index offset mask false same l few =
     let e : at ≡ at + 0 = omega arith in
     (absent ps t at index offset mask (λ k m. same k m ∙ zero-word k), ap (λ (i : ℕ). present t i) e ∙ ap (λ (w : ℕ). eqb w 1) (same 0 (omega arith)))
 
-part-long : (b : Bool) (index offset : ℕ) (mask : Mask) → length (partEntry b index offset mask) ≡ 6
-unfolding partEntry
-part-long true index offset mask = refl
-part-long false index offset mask = refl
-
 -- a register has a part
 some-part : (r : Register) → (hasPart r 2 || hasPart r 1) ≡ true
 unfolding hasPart
@@ -204,17 +197,16 @@ module _ (text : List ℕ) (s : State) (r : Register) (none : registerWritten te
   abbrev writes : List ℕ
   writes = partWords text ps r 2 1 (r .masks .write) (r .masks .writing)
 
-  reads-long : length reads ≡ 6
+  words-long : (mark other own quote : ℕ) → length (partWords text ps r mark other own quote) ≡ 6
   unfolding partWords
-  reads-long = part-long (hasPart r 2) _ _ _
+  words-long mark other own quote = part-length (hasPart r other) _ _ _
 
-  writes-long : length writes ≡ 6
-  unfolding partWords
-  writes-long = part-long (hasPart r 1) _ _ _
+  reads-long : length reads ≡ 6
+  reads-long = words-long 1 2 (r .masks .read) (r .masks .reading)
 
   pub entry-long : length (registerEntry text ps r) ≡ 15
   unfolding registerEntry
-  entry-long = ap (λ (k : ℕ). suc (suc (suc k))) (length-append reads writes ∙ ap₂ _+_ reads-long writes-long)
+  entry-long = ap (λ (k : ℕ). suc (suc (suc k))) (length-append reads writes ∙ ap₂ _+_ reads-long (words-long 2 1 (r .masks .write) (r .masks .writing)))
 
   module _ (fits : 15 * n + 16 ≤ length rs) (few : countOf ps ≤ 16) where
     word : (k : ℕ) → k < 15 → getD with-entry (registerAt n + k) 0 ≡ getD (registerEntry text ps r) k 0

@@ -1,7 +1,7 @@
 -- Turns of the loops that store words.
 use Prim.Native.Nat.{ℕ, zero, suc, _+_, _*_, _≤_, _<_}
 use native.Mathlib.Omega.{arith}
-use native.Mathlib.Nat.{not-suc-le-zero, le-of-suc-le-suc}
+use native.Mathlib.Nat.{min-eq-left, not-suc-le-zero, le-of-suc-le-suc}
 use native.Mathlib.Numerals.{add-one}
 use mathlib.Core.Path.{_≡_, refl, ap, _∙_}
 use mathlib.Core.List.{List, [], _∷_, _++_, append-nil}
@@ -9,6 +9,11 @@ use lib.ListN.{length, getD, drop, set, replicate, drop-of-length-le}
 use lib.Seq.{drop-cons, drop-length, sets}
 use Rattle.tables.specs.Tables.{countOf}
 use Rattle.rules.specs.Words.{wordOf, written, appended}
+
+-- a number that a word can hold is that word
+pub word-itself : (n : ℕ) → n ≤ 4294967295 → wordOf n ≡ n
+unfolding wordOf
+word-itself n l = min-eq-left l
 
 -- a run of stores: its start, one word more, and the end
 pub written-start : (t : List ℕ) (at : ℕ) (ws : List ℕ) → written t at ws ≡ written t (at + 0) (drop 0 ws)

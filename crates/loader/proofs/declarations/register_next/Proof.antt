@@ -1,6 +1,9 @@
 -- `loader::declarations::register_next` meets its contract.
-use Rattle.loader.proofs.NextSteps.{register-extra, register-stops, register-goes}
-use Rattle.syntax.specs.Text.{taken}
+use Rattle.loader.proofs.NextSteps.{register-stops, register-goes}
+use mathlib.Core.Path.{_∙_}
+use Rattle.syntax.specs.Text.{registerWith}
+use Rattle.loader.specs.Judge.{progressOf}
+use Rattle.loader.proofs.LoadSteps.{moved-to}
 use borrow.Author.Tests.{le-leb, lt-leb}
 use borrow.Author.Needs.{needs}
 use Rattle.loader.proofs.declarations.register_next.Statement.{statement}
@@ -13,7 +16,8 @@ moved-requires : tie.Need-moved-requires
 moved-requires c κs = search needs
 
 returns : tie.Need-returns
-returns c = register-extra _ _ _ _ _ (le-leb _ _ (c .before .before .if1 .taken)) (c .before .extra-word .ensures) (c .moved .ensures)
+unfolding registerWith progressOf
+returns c = moved-to _ _ _ _ _ (c .moved .ensures) ∙ rw (le-leb _ _ (c .before .before .if1 .taken), c .before .extra-word .ensures)
 
 register-after-requires : tie.Need-register-after-requires
 register-after-requires c κs = search needs

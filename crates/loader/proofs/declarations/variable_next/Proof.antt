@@ -1,13 +1,15 @@
 -- `loader::declarations::variable_next` meets its contract.
 use mathlib.Core.List.{[]}
 use native.Mathlib.Omega.{arith}
-use mathlib.Core.Path.{sym, subst}
+use mathlib.Core.Path.{sym, _∙_, subst}
 use borrow.Author.Tests.{le-leb, lt-leb}
+use Rattle.syntax.specs.Text.{variableWith}
 use Rattle.rules.specs.State.{stateOf}
 use Rattle.loader.specs.Judge.{progressOf}
 use Rattle.loader.proofs.PieceCounts.{WellRead, well-read}
 use Rattle.loader.proofs.VariableReady.{judged-asks}
-use Rattle.loader.proofs.NextSteps.{variable-extra, variable-stops, variable-goes, variable-ready, ready-still}
+use Rattle.loader.proofs.LoadSteps.{moved-to}
+use Rattle.loader.proofs.NextSteps.{variable-stops, variable-goes, variable-ready, ready-still}
 use borrow.Author.Needs.{needs}
 use Rattle.loader.proofs.declarations.variable_next.Statement.{statement}
 use Rattle.loader.proofs.declarations.variable_next.Tie as tie
@@ -19,7 +21,8 @@ moved-requires : tie.Need-moved-requires
 moved-requires c κs = search needs
 
 returns : tie.Need-returns
-returns c = (variable-extra _ _ _ _ _ (le-leb _ _ (c .before .before .if1 .taken)) (c .before .extra-word .ensures) (c .moved .ensures), ready-still [] _ _ _ _ _ (c .moved .ensures) (c .before .before .before .before .before .before .before .before .before .before .before .before .before .before .pre))
+unfolding variableWith progressOf
+returns c = (moved-to _ _ _ _ _ (c .moved .ensures) ∙ rw (le-leb _ _ (c .before .before .if1 .taken), c .before .extra-word .ensures), ready-still [] _ _ _ _ _ (c .moved .ensures) (c .before .before .before .before .before .before .before .before .before .before .before .before .before .before .pre))
 
 slice-aggregate-variable-after : tie.Need-slice-aggregate-variable-after
 slice-aggregate-variable-after c = search needs

@@ -1,6 +1,9 @@
 -- `loader::heading::parameter_next` meets its contract.
-use Rattle.loader.proofs.NextSteps.{parameter-extra, parameter-stops, parameter-goes}
-use Rattle.syntax.specs.Text.{taken}
+use Rattle.loader.proofs.NextSteps.{parameter-stops, parameter-goes}
+use mathlib.Core.Path.{_∙_}
+use Rattle.syntax.specs.Text.{parameterWith}
+use Rattle.loader.specs.Judge.{progressOf}
+use Rattle.loader.proofs.LoadSteps.{moved-to}
 use borrow.Author.Tests.{le-leb, lt-leb}
 use borrow.Author.Needs.{needs}
 use Rattle.loader.proofs.heading.parameter_next.Statement.{statement}
@@ -13,7 +16,8 @@ moved-requires : tie.Need-moved-requires
 moved-requires c κs = search needs
 
 returns : tie.Need-returns
-returns c = parameter-extra _ _ _ _ _ (le-leb _ _ (c .before .before .if1 .taken)) (c .before .extra-name .ensures) (c .moved .ensures)
+unfolding parameterWith progressOf
+returns c = moved-to _ _ _ _ _ (c .moved .ensures) ∙ rw (le-leb _ _ (c .before .before .if1 .taken), c .before .extra-name .ensures)
 
 slice-aggregate-parameter-after : tie.Need-slice-aggregate-parameter-after
 slice-aggregate-parameter-after c = search needs
