@@ -1,8 +1,8 @@
 // Places of a text: lines and columns, the name that stands there, and the declaration that it belongs to.
 ghost use mathlib.Core.Path.{_≡_};
 ghost use Rattle.details.specs.Places.{breaksAt, linesBefore, Start, extentOf, nameAt, openingOf, opensRegister};
-use rules::lists::choose;
 use rules::names::name_of;
+use rules::words::choose;
 use token::Token;
 
 fn breaks_at(text: &[u8], place: usize) -> bool

@@ -17,7 +17,7 @@ use details::entries::variable_volatile;
 use details::entries::variable_width;
 use details::holders::mentioned_before;
 use details::holders::pulls_trigger;
-use rules::lists::choose;
+use rules::words::choose;
 use rules::words::narrow;
 use tables::Part;
 use tables::Piece;

@@ -14,8 +14,9 @@ use Rattle.tables.specs.Tables.{countOf, variableAt}
 use Rattle.tables.specs.Rules.{variableFault, variableShape}
 use Rattle.tables.specs.Sound.{variableGood}
 use Rattle.tables.proofs.Growth.{Added, variable-added}
-use Rattle.rules.specs.State.{State}
-use Rattle.rules.specs.Variable.{badBehaviours, lowest, listOf, earlyFault, variablesWith, lateNumber, judgeVariable}
+use Rattle.rules.specs.State.{State, withVariables}
+use Rattle.rules.specs.Variable.{badBehaviours, lowest, listOf, earlyFault, variablesWith, lateNumber, addedVariable, judgeVariable}
+use Rattle.rules.proofs.JudgingLaws.{unbroken}
 use Rattle.rules.proofs.VariableLaws.{late-none}
 use Rattle.loader.proofs.PieceCounts.{WellRead}
 use Rattle.loader.proofs.VariableReady.{early-eleven, variable-length, variable-adds, entry-shaped}
@@ -57,21 +58,18 @@ module _ (text : List ℕ) {p r v : ℕ} (s : State) (d : VariableRead) (g : Gro
   added = variable-adds text s d w (omega (arith, g .variables-long)) (omega (arith, g .variables-counted))
 
   pub grow-variable : judgeVariable text s d .fault .number ≡ 0 → Growing p r (v + 1) (judgeVariable text s d)
-  unfolding judgeVariable
-  grow-variable none = go (eqb (earlyFault text s d .number) 0) refl
-    where
-      go : (b : Bool) → eqb (earlyFault text s d .number) 0 ≡ b → Growing p r (v + 1) (judgeVariable text s d)
-      go false e = absurd (eqb-false (earlyFault text s d .number) 0 e (sym (rw e) ∙ none))
-      go true e =
-          let late : lateNumber text s d ≡ 0 = late-none (d .variable .place) refl (sym (rw e) ∙ none) in
-          let shape = entry-shaped text s d w fits (early-eleven text s d (eqb-true (earlyFault text s d .number) 0 e)) in
-          rw e
-          (record {
-            so-far = variable-added (s .parameters) (s .registers) (g .so-far) added (variable-good (s .registers) more (countOf vs) shape (kept late));
-            parameters-long = g .parameters-long;
-            registers-long = g .registers-long;
-            variables-long = omega (arith, g .variables-long, variable-length text s d w);
-            parameters-counted = g .parameters-counted;
-            registers-counted = g .registers-counted;
-            variables-counted = added .count ∙ ap (λ (n : ℕ). n + 1) (g .variables-counted);
-          })
+  unfolding judgeVariable addedVariable withVariables
+  grow-variable none =
+      let whole = unbroken s (earlyFault text s d) (addedVariable text s d) none in
+      let late : lateNumber text s d ≡ 0 = late-none (d .variable .place) refl (whole .1 .1) in
+      let shape = entry-shaped text s d w fits (early-eleven text s d (whole .0)) in
+      rw (whole .1 .0)
+      (record {
+        so-far = variable-added (s .parameters) (s .registers) (g .so-far) added (variable-good (s .registers) more (countOf vs) shape (kept late));
+        parameters-long = g .parameters-long;
+        registers-long = g .registers-long;
+        variables-long = omega (arith, g .variables-long, variable-length text s d w);
+        parameters-counted = g .parameters-counted;
+        registers-counted = g .registers-counted;
+        variables-counted = added .count ∙ ap (λ (n : ℕ). n + 1) (g .variables-counted);
+      })

@@ -2,7 +2,7 @@
 -- Assumes nothing.
 use Prim.Native.Nat.{ℕ, _+_}
 use native.Mathlib.Omega.{arith}
-use mathlib.Core.Path.{_≡_, refl, sym, ap, _∙_, subst}
+use mathlib.Core.Path.{_≡_, refl, sym, ap, _∙_}
 use mathlib.Core.Bool.{Bool, true, false, false≢true}
 use mathlib.Core.List.{List, [], _∷_, foldl}
 use Rattle.syntax.specs.Text.{Declaration, aDevice, aParameter, aRegister, aVariable}
@@ -15,7 +15,7 @@ use Rattle.loader.specs.Claim.{tally, oneParameter, oneRegister, oneVari
 use Rattle.loader.proofs.Breaking.{stays}
 use Rattle.loader.proofs.Tallied.{Entire, EachEntire}
 use Rattle.loader.proofs.MoreLaws.{more-none, more-then}
-use Rattle.loader.proofs.Entries.{Roomy, Grows, parameter-judged, parameter-grows, register-judged, register-grows, variable-grows}
+use Rattle.loader.proofs.Entries.{Roomy, Grows, parameter-grows, register-grows, variable-grows}
 
 grows-none : (s : State) → Grows 0 0 0 s s
 grows-none s = record { parameters = more-none 36 (s .parameters); registers = more-none 15 (s .registers); variables = more-none 59 (s .variables) }
@@ -58,8 +58,8 @@ module _ (text : List ℕ) where
   unfolding Entire oneParameter oneRegister oneVariable judge judgeDevice
   grows-one s (aDevice d) e m k =
       record { parameters = more-none 36 (s .parameters); registers = more-none 15 (s .registers); variables = more-none 59 (s .variables) }
-  grows-one s (aParameter d) e m k = subst (λ (t : State). Grows 1 0 0 s t) (sym (parameter-judged text s d e m k)) (parameter-grows text s d e m k)
-  grows-one s (aRegister d) e m k = subst (λ (t : State). Grows 0 1 0 s t) (sym (register-judged text s d m k .1)) (register-grows text s d m k)
+  grows-one s (aParameter d) e m k = parameter-grows text s d e m k
+  grows-one s (aRegister d) e m k = register-grows text s d m k
   grows-one s (aVariable d) e m k = variable-grows text s d e m k
 
   -- a list without a fault at its end has none at its first

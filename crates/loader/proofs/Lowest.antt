@@ -16,14 +16,14 @@ use Rattle.tables.specs.Rules.{rangesFit, parameterFault, placeTaken, registerF
 use Rattle.tables.specs.Tables.{countOf, parameterWidth, registerWidth, variablePartOf}
 use Rattle.rules.specs.declared.fault.Fault.{Fault}
 use Rattle.rules.specs.Fault.{noFault, faultIf, only, isFault, orElse}
-use Rattle.rules.specs.State.{State, stopped, withParameters, withRegisters}
+use Rattle.rules.specs.State.{State, stopped, unlessBroken, withParameters, withRegisters, withVariables}
 use Rattle.rules.specs.Names.{nameOf, isNothing, isDeclared, declaredBefore}
 use Rattle.rules.specs.Parameter.{parameterEntry, addedParameter, judgeParameter}
 use Rattle.rules.specs.Words.{appended}
 use Rattle.rules.specs.Register.{isPaired, masksKept, unknownPort, badOffset, registerEntry, registerWritten, addedRegister, judgeRegister}
 use Rattle.syntax.specs.declared.register.Register.{Register}
 use Rattle.rules.specs.Lists.{unknownIn, pieceNamed}
-use Rattle.rules.specs.Variable.{badBehaviours, lowest, listOf, variablesWith, nameFault, earlyFault, lateNumber, judgeVariable}
+use Rattle.rules.specs.Variable.{badBehaviours, lowest, listOf, variablesWith, nameFault, earlyFault, lateNumber, addedVariable, judgeVariable}
 use Rattle.rules.proofs.Growing.{Growing}
 use Rattle.loader.specs.Order.{rule, firstOfRules, parameterRules, isUnknown, isMisplaced, registerRules, variableRules}
 use Rattle.loader.proofs.Placed.{entry-placed}
@@ -67,8 +67,8 @@ parameter-order false false c = refl
 parameter-order false true true = refl
 parameter-order false true false = refl
 
-six-first : (a : Bool) (place : ℕ) (s t : State) → pick (isFault (faultIf a 6 place)) (stopped s (faultIf a 6 place)) t .fault .number ≡ cond a 6 (t .fault .number)
-unfolding faultIf isFault noFault stopped
+six-first : (a : Bool) (place : ℕ) (s t : State) → unlessBroken s (faultIf a 6 place) t .fault .number ≡ cond a 6 (t .fault .number)
+unfolding unlessBroken faultIf isFault noFault stopped
 six-first true place s t = refl
 six-first false place s t = refl
 
@@ -81,9 +81,13 @@ parameter-lowest text s d =
     six-first a (d .parameter .place) s (addedParameter s d) ∙ parameter-order a (rangesFit ps i) (eqb (parameterWidth ps i) 8)
 
 -- ---- a register
-picked-fault : (b : Bool) (x y : State) → pick b x y .fault .number ≡ cond b (x .fault .number) (y .fault .number)
-picked-fault true x y = refl
-picked-fault false x y = refl
+broken-number : (s : State) (before : Fault) (entered : State) → unlessBroken s before entered .fault .number ≡ cond (isFault before) (before .number) (entered .fault .number)
+unfolding unlessBroken stopped
+broken-number s before entered = go (isFault before)
+  where
+    go : (b : Bool) → pick b (stopped s before) entered .fault .number ≡ cond b (before .number) (entered .fault .number)
+    go true = refl
+    go false = refl
 
 abbrev written : (a u o p : Bool) → ℕ
 written a u o p = cond a 6 (cond u 7 (cond o 8 (cond p 9 0)))
@@ -145,8 +149,8 @@ module _ (text : List ℕ) {parameters registers variables : ℕ} (s : State) (r
       rw (entry-placed text s r none (grown .so-far .parameters) (omega (arith, grown .parameters-counted)) (omega (arith, grown .registers-counted, grown .registers-long)))
 
   judged-register : judgeRegister text s r .fault .number ≡ cond (isFault (registerWritten text s r)) (registerWritten text s r .number) (registerFault (s .parameters) rs i)
-  unfolding judgeRegister stopped addedRegister withRegisters
-  judged-register = picked-fault (isFault (registerWritten text s r)) (stopped s (registerWritten text s r)) (addedRegister text s r)
+  unfolding judgeRegister addedRegister withRegisters
+  judged-register = broken-number s (registerWritten text s r) (addedRegister text s r)
 
   pub register-lowest : judgeRegister text s r .fault .number ≡ firstOfRules (registerRules text s r)
   unfolding isFault registerRules
@@ -167,7 +171,7 @@ abbrev entry : (m t o x y : Bool) → ℕ
 entry m t o x y = cond (eqb (own m t o) 0) (cond x 14 (cond y 15 0)) (own m t o)
 
 variable-order : (a u w p m t o b x y : Bool)
-    → cond (eqb (early a u w p) 0) (lowest (entry m t o x y) (cond b 13 0)) (early a u w p)
+    → cond (not (eqb (early a u w p) 0)) (early a u w p) (lowest (entry m t o x y) (cond b 13 0))
     ≡ firstOfRules (rule a 6 ∷ rule (u || w) 7 ∷ rule (p || not m) 11 ∷ rule (not t) 12 ∷ rule (not o || b) 13 ∷ rule x 14 ∷ rule y 15 ∷ [])
 unfolding firstOfRules lowest
 variable-order true u w p m t o b x y = refl
@@ -239,14 +243,14 @@ module _ (text : List ℕ) (s : State) (it : VariableRead) where
       go true e = rw e (sym (eqb-true n 0 e))
       go false e = rw e
 
-  judged-is : judgeVariable text s it .fault .number ≡ cond (eqb (earlyFault text s it .number) 0) (lateNumber text s it) (earlyFault text s it .number)
-  unfolding judgeVariable
+  judged-is : judgeVariable text s it .fault .number ≡ cond (isFault (earlyFault text s it)) (earlyFault text s it .number) (lateNumber text s it)
+  unfolding judgeVariable addedVariable withVariables
   judged-is =
-      picked-fault (eqb (earlyFault text s it .number) 0) _ _
-      ∙ ap (λ (n : ℕ). cond (eqb (earlyFault text s it .number) 0) n (earlyFault text s it .number)) (late-is (lateNumber text s it) (it .variable .place))
+      broken-number s (earlyFault text s it) (addedVariable text s it)
+      ∙ ap (λ (n : ℕ). cond (isFault (earlyFault text s it)) (earlyFault text s it .number) n) (late-is (lateNumber text s it) (it .variable .place))
 
   pub variable-lowest : judgeVariable text s it .fault .number ≡ firstOfRules (variableRules text s it)
-  unfolding lateNumber variableFault ownFault variableRules
+  unfolding isFault lateNumber variableFault ownFault variableRules
   variable-lowest =
       let rs = s .registers in
       let vs = variablesWith text s it in

@@ -22,12 +22,12 @@ use Rattle.tables.specs.Rules.{rangesFit, parameterFault, placed, placeTaken, r
 use Rattle.tables.specs.Tables.{parameterWidth, registerPartOf, registerWidth, variablePartOf}
 use Rattle.rules.specs.declared.fault.Fault.{Fault}
 use Rattle.rules.specs.Fault.{noFault, faultIf, only, isFault, orElse}
-use Rattle.rules.specs.State.{State, unlessStopped, stopped, withParameters, withRegisters}
+use Rattle.rules.specs.State.{State, unlessStopped, unlessBroken, stopped, withParameters, withRegisters, withVariables}
 use Rattle.rules.specs.Names.{declaredBefore}
 use Rattle.rules.specs.Parameter.{judgeDevice, addedParameter, judgeParameter}
 use Rattle.rules.specs.Register.{unknownPort, badOffset, registerWritten, addedRegister, judgeRegister}
 use Rattle.rules.specs.Lists.{unknownIn}
-use Rattle.rules.specs.Variable.{badBehaviours, lowest, listOf, nameFault, earlyFault, lateNumber, judgeVariable}
+use Rattle.rules.specs.Variable.{badBehaviours, lowest, listOf, nameFault, earlyFault, lateNumber, addedVariable, judgeVariable}
 use Rattle.loader.specs.Judge.{judge}
 use Rattle.loader.specs.Load.{beginning}
 use Rattle.loader.specs.Claim.{standing}
@@ -91,6 +91,11 @@ state-ruled : (b : Bool) (s t : State) → ruled (s .fault .number) ≡ true →
 state-ruled true s t h k = h
 state-ruled false s t h k = k
 
+broken-ruled : (s : State) (before : Fault) (entered : State) → ruled (before .number) ≡ true → ruled (entered .fault .number) ≡ true
+    → ruled (unlessBroken s before entered .fault .number) ≡ true
+unfolding unlessBroken stopped
+broken-ruled s before entered h k = state-ruled (isFault before) (stopped s before) entered h k
+
 module _ (text : List ℕ) where
   declared-ruled : (s : State) (place extent : ℕ) → ruled (declaredBefore text s place extent .number) ≡ true
   unfolding declaredBefore
@@ -106,10 +111,8 @@ module _ (text : List ℕ) where
   parameter-number ps i = cond-ruled (rangesFit ps i) _ 8 (cond-ruled (eqb (parameterWidth ps i) 8) 0 12 (given 0 refl) (given 12 refl)) (given 8 refl)
 
   parameter-ruled : (s : State) (d : ParameterRead) → ruled (judgeParameter text s d .fault .number) ≡ true
-  unfolding judgeParameter stopped addedParameter withParameters
-  parameter-ruled s d =
-      let f = declaredBefore text s (d .parameter .place) (d .parameter .length) in
-      state-ruled (isFault f) (stopped s f) (addedParameter s d) (declared-ruled s _ _) (parameter-number _ _)
+  unfolding judgeParameter addedParameter withParameters
+  parameter-ruled s d = broken-ruled s (declaredBefore text s (d .parameter .place) (d .parameter .length)) (addedParameter s d) (declared-ruled s _ _) (parameter-number _ _)
 
   register-number : (ps rs : List ℕ) (i : ℕ) → ruled (registerFault ps rs i) ≡ true
   unfolding registerFault
@@ -127,8 +130,8 @@ module _ (text : List ℕ) where
       (or-ruled _ _ (only-ruled _ _ (if-ruled _ 8 _ (given 8 refl))) (if-ruled _ 9 _ (given 9 refl))))))
 
   register-ruled : (s : State) (d : Register) → ruled (judgeRegister text s d .fault .number) ≡ true
-  unfolding judgeRegister stopped addedRegister withRegisters
-  register-ruled s d = state-ruled (isFault (registerWritten text s d)) (stopped s (registerWritten text s d)) (addedRegister text s d) (written-ruled s d) (register-number _ _ _)
+  unfolding judgeRegister addedRegister withRegisters
+  register-ruled s d = broken-ruled s (registerWritten text s d) (addedRegister text s d) (written-ruled s d) (register-number _ _ _)
 
   own-number : (rs vs : List ℕ) (v : ℕ) → ruled (ownFault rs vs v) ≡ true
   unfolding ownFault
@@ -157,8 +160,8 @@ module _ (text : List ℕ) where
       (cond-ruled (badBehaviours (d .variable .rest .behaviours) (listOf text s d 0) (listOf text s d 1)) 13 0 (given 13 refl) (given 0 refl))
 
   variable-ruled : (s : State) (d : VariableRead) → ruled (judgeVariable text s d .fault .number) ≡ true
-  unfolding judgeVariable
-  variable-ruled s d = state-ruled (eqb (earlyFault text s d .number) 0) _ _ (if-ruled _ _ _ (late-ruled s d)) (early-ruled s d)
+  unfolding judgeVariable addedVariable withVariables
+  variable-ruled s d = broken-ruled s (earlyFault text s d) (addedVariable text s d) (early-ruled s d) (if-ruled _ _ _ (late-ruled s d))
 
   judge-ruled : (s : State) (d : Declaration) → ruled (s .fault .number) ≡ true → ruled (judge text s d .fault .number) ≡ true
   unfolding judge judgeDevice unlessStopped

@@ -19,7 +19,7 @@ use Rattle.syntax.specs.Text.{Progress, aRegister, movedTo, counted, taken, ext
 use Rattle.tables.specs.Words.{countOf}
 use Rattle.rules.specs.Fault.{isFault}
 use Rattle.rules.specs.Words.{wordOf, written, appended}
-use Rattle.rules.specs.State.{State, unlessStopped, stopped, withRegisters}
+use Rattle.rules.specs.State.{State, unlessStopped, unlessBroken, stopped, withRegisters}
 use Rattle.rules.specs.Register.{registerWritten, registerEntry, addedRegister, judgeRegister}
 use Rattle.rules.proofs.FaultLaws.{no-number}
 use Rattle.loader.specs.Judge.{judge}
@@ -46,7 +46,7 @@ pub record Kept (s t : State) : Type 0 where
   pub fault : t .fault .number ≡ 0 → s .fault .number ≡ 0
 
 register-kept : (text : List ℕ) (s : State) (r : Register) → Kept s (unlessStopped s (judgeRegister text s r))
-unfolding unlessStopped judgeRegister addedRegister withRegisters stopped
+unfolding unlessStopped judgeRegister unlessBroken addedRegister withRegisters stopped
 register-kept text s r = go (isFault (s .fault)) (isFault (registerWritten text s r)) refl refl
   where
     go : (a b : Bool) → isFault (s .fault) ≡ a → isFault (registerWritten text s r) ≡ b → Kept s (unlessStopped s (judgeRegister text s r))

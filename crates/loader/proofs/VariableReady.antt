@@ -19,15 +19,15 @@ use Rattle.tables.proofs.Laws.{every-more, every-same}
 use Rattle.tables.proofs.SameLaws.{variable-shape-same}
 use Rattle.rules.specs.Fault.{isFault, faultIf, orElse}
 use Rattle.rules.specs.declared.declared.Judging.{Judging}
-use Rattle.rules.specs.State.{State, stateOf, unlessStopped}
+use Rattle.rules.specs.State.{State, stateOf, unlessStopped, unlessBroken, stopped, withVariables}
 use Rattle.rules.specs.Lists.{paired, allHave, listFor, partWords}
-use Rattle.rules.specs.Variable.{triggers, firstPieces, secondPieces, listOf, earlyFault, nameFault, variablesWith, judgeVariable, MappedUnless}
+use Rattle.rules.specs.Variable.{triggers, firstPieces, secondPieces, listOf, earlyFault, nameFault, variablesWith, addedVariable, judgeVariable, MappedUnless}
 use Rattle.loader.specs.Judge.{judge}
 use Rattle.loader.specs.Ready.{Ready}
 use Rattle.loader.proofs.PieceCounts.{WellRead}
 use Rattle.loader.proofs.ShapeLaws.{Listed, pieces-length, pieces-blank, part-shape, entry-length, entry-added, entry-shape, flag-small}
 use Rattle.tables.proofs.Growth.{Added}
-use Rattle.rules.proofs.FaultLaws.{no-number, has-number}
+use Rattle.rules.proofs.JudgingLaws.{unstopped, judged-kept}
 
 -- the list that gives a part is one of the two, or none
 cond-one : (a b c d : Bool) → eqb (cond a (cond b 1 (cond c 2 (cond d 1 0))) 0) 0 ≡ false
@@ -83,13 +83,10 @@ module _ (text : List ℕ) (s : State) (it : VariableRead) where
     pub given : (eqb (listOf text s it 0) 0 && eqb (listOf text s it 1) 0) ≡ false
 
   pub entered-is : after .fault .number ≡ 0 → Entered
-  unfolding unlessStopped judgeVariable
-  entered-is h = go (isFault (s .fault)) refl (eqb (earlyFault text s it .number) 0) refl
-    where
-      go : (a : Bool) → isFault (s .fault) ≡ a → (b : Bool) → eqb (earlyFault text s it .number) 0 ≡ b → Entered
-      go true e b g = absurd (has-number (s .fault) e (sym (rw e) ∙ h))
-      go false e true g = record { before = no-number (s .fault) e; table = rw (e, g); given = early-eleven (eqb-true (earlyFault text s it .number) 0 g) }
-      go false e false g = absurd (eqb-false (earlyFault text s it .number) 0 g (sym (rw (e, g)) ∙ h))
+  unfolding judgeVariable addedVariable withVariables
+  entered-is h =
+      let kept = judged-kept s (earlyFault text s it) (addedVariable text s it) h in
+      record { before = unstopped s (judgeVariable text s it) h .0; table = ap (λ (t : State). t .variables) (kept .1); given = early-eleven (kept .0) }
 
   -- the list of a part, as its entry wants it
   module _ (w : WellRead (it .variable)) where
@@ -114,35 +111,28 @@ module _ (text : List ℕ) (s : State) (it : VariableRead) where
         marked : (p : ℕ) → p + 1 ≡ 0 → ⊥
         marked p e = omega arith
 
-    -- its two parts have their shape, each in 27 words
-    abbrev reads : List ℕ
-    reads =
-        partWords (it .variable) (firstPieces text s it) (secondPieces text s it)
-        (triggers (it .variable .rest .behaviours) (it .variable .rest .behaviours .read)) (listOf text s it 0)
+    -- each of its parts has its shape, in 27 words
+    abbrev part : (own p : ℕ) → List ℕ
+    part own p = partWords (it .variable) (firstPieces text s it) (secondPieces text s it) (triggers (it .variable .rest .behaviours) own) (listOf text s it p)
 
-    abbrev writes : List ℕ
-    writes =
-        partWords (it .variable) (firstPieces text s it) (secondPieces text s it)
-        (triggers (it .variable .rest .behaviours) (it .variable .rest .behaviours .write)) (listOf text s it 1)
-
-    pub reads-shaped : (variablePartShape reads 0 ≡ true) × (length reads ≡ 27)
+    pub part-shaped : (own p : ℕ) → (variablePartShape (part own p) 0 ≡ true) × (length (part own p) ≡ 27)
     unfolding triggers
-    reads-shaped =
-        part-shape (it .variable) (firstPieces text s it) (secondPieces text s it) _ (listOf text s it 0)
-        (flag-small (leb 1 (it .variable .rest .behaviours .bare + it .variable .rest .behaviours .read))) first-listed (second-listed 0)
+    part-shaped own p =
+        part-shape (it .variable) (firstPieces text s it) (secondPieces text s it) _ (listOf text s it p)
+        (flag-small (leb 1 (it .variable .rest .behaviours .bare + own))) first-listed (second-listed p)
 
-    pub writes-shaped : (variablePartShape writes 0 ≡ true) × (length writes ≡ 27)
-    unfolding triggers
-    writes-shaped =
-        part-shape (it .variable) (firstPieces text s it) (secondPieces text s it) _ (listOf text s it 1)
-        (flag-small (leb 1 (it .variable .rest .behaviours .bare + it .variable .rest .behaviours .write))) first-listed (second-listed 1)
+    abbrev own-reads : ℕ
+    own-reads = it .variable .rest .behaviours .read
+
+    abbrev own-writes : ℕ
+    own-writes = it .variable .rest .behaviours .write
 
     -- the entry is written behind those that are there
     pub variable-length : length (variablesWith text s it) ≡ length (s .variables)
-    variable-length = entry-length (s .variables) (it .variable) (firstPieces text s it) (secondPieces text s it) (listOf text s it 0) (listOf text s it 1) (reads-shaped .1) (writes-shaped .1)
+    variable-length = entry-length (s .variables) (it .variable) (firstPieces text s it) (secondPieces text s it) (listOf text s it 0) (listOf text s it 1) (part-shaped own-reads 0 .1) (part-shaped own-writes 1 .1)
 
     pub variable-adds : 0 < length (s .variables) → countOf (s .variables) < 4294967295 → Added 59 (s .variables) (variablesWith text s it)
-    variable-adds = entry-added (s .variables) (it .variable) (firstPieces text s it) (secondPieces text s it) (listOf text s it 0) (listOf text s it 1) (reads-shaped .1) (writes-shaped .1)
+    variable-adds = entry-added (s .variables) (it .variable) (firstPieces text s it) (secondPieces text s it) (listOf text s it 0) (listOf text s it 1) (part-shaped own-reads 0 .1) (part-shaped own-writes 1 .1)
 
     -- the entry has its shape, and those before it keep theirs
     pub entry-shaped : variableAt (countOf (s .variables)) + 59 ≤ length (s .variables) → (eqb (listOf text s it 0) 0 && eqb (listOf text s it 1) 0) ≡ false
@@ -150,8 +140,8 @@ module _ (text : List ℕ) (s : State) (it : VariableRead) where
     entry-shaped fits given =
         let d = it .variable in
         let f = firstPieces text s it in
-        entry-shape (s .variables) d f (secondPieces text s it) (listOf text s it 0) (listOf text s it 1) (reads-shaped .1) (writes-shaped .1) fits (w .kind)
-        (reads-shaped .0) (writes-shaped .0)
+        entry-shape (s .variables) d f (secondPieces text s it) (listOf text s it 0) (listOf text s it 1) (part-shaped own-reads 0 .1) (part-shaped own-writes 1 .1) fits (w .kind)
+        (part-shaped own-reads 0 .0) (part-shaped own-writes 1 .0)
         (either-some _ _ (eqb (listOf text s it 0) 1 || eqb (listOf text s it 0) 2) (eqb (listOf text s it 1) 1 || eqb (listOf text s it 1) 2) given
         (list-some (s .registers) d f 0) (list-some (s .registers) d f 1))
 
@@ -169,14 +159,14 @@ module _ (text : List ℕ) (s : State) (it : VariableRead) where
 
   -- only the variables change, and if they do, by the entry
   pub only-variables : (after .registers ≡ s .registers) × ((after .variables ≡ s .variables) ⊎ (after .variables ≡ variablesWith text s it))
-  unfolding unlessStopped judgeVariable
-  only-variables = go (isFault (s .fault)) refl (eqb (earlyFault text s it .number) 0) refl
+  unfolding unlessStopped judgeVariable unlessBroken stopped addedVariable withVariables
+  only-variables = go (isFault (s .fault)) refl (isFault (earlyFault text s it)) refl
     where
-      go : (a : Bool) → isFault (s .fault) ≡ a → (b : Bool) → eqb (earlyFault text s it .number) 0 ≡ b
+      go : (a : Bool) → isFault (s .fault) ≡ a → (b : Bool) → isFault (earlyFault text s it) ≡ b
           → (after .registers ≡ s .registers) × ((after .variables ≡ s .variables) ⊎ (after .variables ≡ variablesWith text s it))
       go true e b g = (rw e, inl (rw e))
-      go false e true g = (rw (e, g), inr (rw (e, g)))
-      go false e false g = (rw (e, g), inl (rw (e, g)))
+      go false e true g = (rw (e, g), inl (rw (e, g)))
+      go false e false g = (rw (e, g), inr (rw (e, g)))
 
 pub ready-variable : (text : List ℕ) (p : Progress State) (it : VariableRead) (next : ℕ)
     {bits held pulled bits1 held1 pulled1 bits′ held′ pulled′ bits1′ held1′ pulled1′ : List ℕ} → Ready p bits held pulled bits1 held1 pulled1

@@ -31,8 +31,8 @@ use Rattle.rules.specs.Mask.{isElement, maskText, elements, maskOf}
 use Rattle.rules.specs.Names.{standsAt, isNamed, heldOf, foundBelow, foundIn, isNothing, indexOf, isDeclared, declaredBefore}
 use Rattle.rules.specs.Parameter.{judgeDevice, parameterEntry, addedParameter, judgeParameter}
 use Rattle.rules.specs.Register.{isNatural, naturalOf, isPaired, hasPart, isMasked, masksKept, portOf, partMask, partEntry, portFound, partWords as partWords-of-register, registerEntry, unknownPort, badOffset, registerWritten, addedRegister, judgeRegister}
-use Rattle.rules.specs.State.{unlessStopped, stopped, withParameters, withRegisters}
-use Rattle.rules.specs.Variable.{flagOf, triggers, headWords, withVariable, badTrigger, badBehaviours, lowest, nameFault, earlyFault, lateNumber, judgeVariable}
+use Rattle.rules.specs.State.{unlessStopped, stopped, unlessBroken, withParameters, withRegisters, withVariables}
+use Rattle.rules.specs.Variable.{flagOf, triggers, headWords, withVariable, badTrigger, badBehaviours, lowest, nameFault, earlyFault, lateNumber, addedVariable, judgeVariable}
 use Rattle.rules.specs.Words.{wordOf as wordOf-of-words, written, appended}
 use Rattle.loader.specs.Judge.{judge}
 use Rattle.loader.specs.Load.{isShort, isLong, beginning, judged, firstUncovered, judgedAs, onceRead, verdictOf, isAccepted, leftBy, laidOver, loadOf}
@@ -67,7 +67,7 @@ entries = tt
 
 -- the rules of one declaration
 unfoldable pub rules : Unit {0}
-unfolding noFault faultIf only isFault orElse pieceNamed unknownIn pieceWords piecesOn paired allHave listFor partWords isElement maskText elements maskOf standsAt isNamed heldOf foundBelow foundIn isNothing indexOf isDeclared declaredBefore judgeDevice parameterEntry addedParameter judgeParameter isNatural naturalOf isPaired hasPart isMasked masksKept portOf partMask partEntry portFound partWords-of-register registerEntry unknownPort badOffset registerWritten addedRegister judgeRegister unlessStopped stopped withParameters withRegisters flagOf triggers headWords withVariable badTrigger badBehaviours lowest nameFault earlyFault lateNumber judgeVariable wordOf-of-words written appended
+unfolding noFault faultIf only isFault orElse pieceNamed unknownIn pieceWords piecesOn paired allHave listFor partWords isElement maskText elements maskOf standsAt isNamed heldOf foundBelow foundIn isNothing indexOf isDeclared declaredBefore judgeDevice parameterEntry addedParameter judgeParameter isNatural naturalOf isPaired hasPart isMasked masksKept portOf partMask partEntry portFound partWords-of-register registerEntry unknownPort badOffset registerWritten addedRegister judgeRegister unlessStopped stopped unlessBroken withParameters withRegisters withVariables flagOf triggers headWords withVariable badTrigger badBehaviours lowest nameFault earlyFault lateNumber addedVariable judgeVariable wordOf-of-words written appended
 rules = tt
 
 -- a whole text

@@ -2,8 +2,8 @@
 -- Assumes nothing.
 use Prim.Native.Nat.{ℕ, _+_, _*_, _≤_, _<_}
 use native.Mathlib.Omega.{arith}
-use mathlib.Core.Path.{_≡_, refl, sym, ap, _∙_}
-use mathlib.Core.Bool.{Bool, true, false}
+use mathlib.Core.Path.{_≡_, ap, _∙_}
+use mathlib.Core.Bool.{true}
 use mathlib.Core.List.{List}
 use lib.ListN.{length}
 use Rattle.syntax.specs.declared.register.Register.{Register}
@@ -12,14 +12,12 @@ use Rattle.tables.specs.Tables.{countOf}
 use Rattle.tables.specs.Rules.{parameterFault, parameterShape, registerFault, registerShape}
 use Rattle.tables.specs.Sound.{parameterGood, registerGood}
 use Rattle.tables.proofs.Growth.{Added, SoFar, parameter-added, register-added}
-use Rattle.rules.specs.declared.fault.Fault.{Fault}
-use Rattle.rules.specs.Fault.{isFault}
-use Rattle.rules.specs.State.{State, stopped, withParameters, withRegisters}
+use Rattle.rules.specs.State.{State, withParameters, withRegisters}
 use Rattle.rules.specs.Names.{declaredBefore}
 use Rattle.rules.specs.Words.{appended}
 use Rattle.rules.specs.Parameter.{parameterEntry, addedParameter, judgeParameter}
 use Rattle.rules.specs.Register.{registerEntry, registerWritten, addedRegister, judgeRegister}
-use Rattle.rules.proofs.FaultLaws.{no-number, has-number}
+use Rattle.rules.proofs.JudgingLaws.{unbroken}
 use Rattle.rules.proofs.AppendLaws.{length-appended, appended-added}
 use Rattle.rules.proofs.ParameterShape.{Sets}
 use Rattle.rules.proofs.ParameterShape as P
@@ -51,34 +49,27 @@ module _ (text : List ℕ) {p r v : ℕ} (s : State) (d : ParameterRead) (g : Gr
   abbrev ps-more : List ℕ
   ps-more = appended 36 ps (parameterEntry d)
 
-  abbrev declared : Fault
-  declared = declaredBefore text s (d .parameter .place) (d .parameter .length)
-
   ps-fits : 36 * countOf ps + 37 ≤ length ps
   ps-fits = omega (arith, g .parameters-long, g .parameters-counted)
 
   ps-added : Added 36 ps ps-more
-  ps-added = appended-added 36 ps (parameterEntry d) (omega (arith, g .parameters-long)) (omega (arith, g .parameters-counted)) (omega (arith, P.entry-long ps d sets ps-fits))
+  ps-added = appended-added 36 ps (parameterEntry d) (omega (arith, g .parameters-long)) (omega (arith, g .parameters-counted)) (omega (arith, P.entry-long d sets))
 
   pub grow-parameter : judgeParameter text s d .fault .number ≡ 0 → Growing (p + 1) r v (judgeParameter text s d)
-  unfolding judgeParameter addedParameter withParameters stopped
-  grow-parameter none = go (isFault declared) refl
-    where
-      go : (b : Bool) → isFault declared ≡ b → Growing (p + 1) r v (judgeParameter text s d)
-      go true e = absurd (has-number declared e (sym (rw e) ∙ none))
-      go false e =
-          let kept : parameterFault ps-more (countOf ps) ≡ 0 = sym (rw e) ∙ none in
-          rw e
-          (record {
-            so-far = parameter-added (s .registers) (s .variables) (g .so-far) (g .registers-counted ∙ no-register) (g .variables-counted ∙ no-variable) ps-added
-                (parameter-good ps-more (countOf ps) (P.parameter-shape ps d sets ps-fits) kept);
-            parameters-long = omega (arith, length-appended 36 ps (parameterEntry d), g .parameters-long);
-            registers-long = g .registers-long;
-            variables-long = g .variables-long;
-            parameters-counted = ps-added .count ∙ ap (λ (n : ℕ). n + 1) (g .parameters-counted);
-            registers-counted = g .registers-counted;
-            variables-counted = g .variables-counted;
-          })
+  unfolding judgeParameter addedParameter withParameters
+  grow-parameter none =
+      let kept = unbroken s (declaredBefore text s (d .parameter .place) (d .parameter .length)) (addedParameter s d) none in
+      rw (kept .1 .0)
+      (record {
+        so-far = parameter-added (s .registers) (s .variables) (g .so-far) (g .registers-counted ∙ no-register) (g .variables-counted ∙ no-variable) ps-added
+            (parameter-good ps-more (countOf ps) (P.parameter-shape ps d sets ps-fits) (kept .1 .1));
+        parameters-long = omega (arith, length-appended 36 ps (parameterEntry d), g .parameters-long);
+        registers-long = g .registers-long;
+        variables-long = g .variables-long;
+        parameters-counted = ps-added .count ∙ ap (λ (n : ℕ). n + 1) (g .parameters-counted);
+        registers-counted = g .registers-counted;
+        variables-counted = g .variables-counted;
+      })
 
 -- ---- a register
 module _ (text : List ℕ) {p r v : ℕ} (s : State) (d : Register) (g : Growing p r v s) (few : r < 64) (few-parameters : p ≤ 16) where
@@ -92,25 +83,20 @@ module _ (text : List ℕ) {p r v : ℕ} (s : State) (d : Register) (g : Growing
   rs-fits = omega (arith, g .registers-long, g .registers-counted)
 
   pub grow-register : judgeRegister text s d .fault .number ≡ 0 → Growing p (r + 1) v (judgeRegister text s d)
-  unfolding judgeRegister addedRegister withRegisters stopped
-  grow-register none = go (isFault (registerWritten text s d)) refl
-    where
-      go : (b : Bool) → isFault (registerWritten text s d) ≡ b → Growing p (r + 1) v (judgeRegister text s d)
-      go true e = absurd (has-number (registerWritten text s d) e (sym (rw e) ∙ none))
-      go false e =
-          let written = no-number (registerWritten text s d) e in
-          let kept : registerFault (s .parameters) rs-more (countOf rs) ≡ 0 = sym (rw e) ∙ none in
-          let long = R.entry-long text s d written in
-          let added : Added 15 rs rs-more =
-          appended-added 15 rs (registerEntry text (s .parameters) d) (omega (arith, g .registers-long)) (omega (arith, g .registers-counted)) (omega arith) in
-          rw e
-          (record {
-            so-far = register-added (s .parameters) (s .variables) (g .so-far) added
-                (register-good (s .parameters) rs-more (countOf rs) (R.register-shape text s d written rs-fits (omega (arith, g .parameters-counted))) kept);
-            parameters-long = g .parameters-long;
-            registers-long = omega (arith, length-appended 15 rs (registerEntry text (s .parameters) d), g .registers-long);
-            variables-long = g .variables-long;
-            parameters-counted = g .parameters-counted;
-            registers-counted = added .count ∙ ap (λ (n : ℕ). n + 1) (g .registers-counted);
-            variables-counted = g .variables-counted;
-          })
+  unfolding judgeRegister addedRegister withRegisters
+  grow-register none =
+      let kept = unbroken s (registerWritten text s d) (addedRegister text s d) none in
+      let long = R.entry-long text s d (kept .0) in
+      let added : Added 15 rs rs-more =
+      appended-added 15 rs (registerEntry text (s .parameters) d) (omega (arith, g .registers-long)) (omega (arith, g .registers-counted)) (omega arith) in
+      rw (kept .1 .0)
+      (record {
+        so-far = register-added (s .parameters) (s .variables) (g .so-far) added
+            (register-good (s .parameters) rs-more (countOf rs) (R.register-shape text s d (kept .0) rs-fits (omega (arith, g .parameters-counted))) (kept .1 .1));
+        parameters-long = g .parameters-long;
+        registers-long = omega (arith, length-appended 15 rs (registerEntry text (s .parameters) d), g .registers-long);
+        variables-long = g .variables-long;
+        parameters-counted = g .parameters-counted;
+        registers-counted = added .count ∙ ap (λ (n : ℕ). n + 1) (g .registers-counted);
+        variables-counted = g .variables-counted;
+      })

@@ -7,6 +7,7 @@ pub mod ListLaws
 pub mod FrameLaws
 pub mod VariableLaws
 pub mod FaultLaws
+pub mod JudgingLaws
 pub mod WrittenLaws
 pub mod AppendLaws
 pub mod ParameterShape

@@ -21,9 +21,9 @@ use Rattle.syntax.specs.Variable.{VariableRead}
 use Rattle.rules.specs.declared.fault.Fault.{Fault}
 use Rattle.rules.specs.declared.declared.Judging.{Judging}
 use Rattle.rules.specs.declared.variable.Early.{Early}
-use Rattle.rules.specs.Fault.{noFault, faultIf, orElse}
-use Rattle.rules.specs.State.{State, stateOf, faulted}
-use Rattle.rules.specs.Variable.{triggers, headWords, withVariable, badBehaviours, lowest, readOf, nameFault, firstPieces, secondPieces, listOf, earlyFault, earlyOf, lateNumber, judgeVariable, Mapped}
+use Rattle.rules.specs.Fault.{noFault, faultIf, isFault, orElse}
+use Rattle.rules.specs.State.{State, stateOf, faulted, stopped, unlessBroken, withVariables}
+use Rattle.rules.specs.Variable.{triggers, headWords, withVariable, badBehaviours, lowest, readOf, nameFault, firstPieces, secondPieces, listOf, earlyFault, earlyOf, lateNumber, addedVariable, judgeVariable, Mapped}
 use Rattle.rules.proofs.FrameLaws.{written-below, before-same}
 use Rattle.tables.proofs.SameLaws.{Alike}
 use Rattle.tables.proofs.Growth.{before-more}
@@ -114,25 +114,17 @@ module _ (text : List ℕ) (j : Judging) (ps rs vs : List ℕ) (d : Variable) (f
   early-is n f r w u e = rw (e, u, r, w, f, n)
 
   module _ {early : Early} (e : early ≡ earlyOf text before it) where
-    fault-is : early .fault ≡ earlyFault text before it
+    parts-are : (early .fault ≡ earlyFault text before it) × (early .read ≡ listOf text before it 0) × (early .write ≡ listOf text before it 1)
     unfolding earlyOf
-    fault-is = ap (λ (x : Early). x .fault) e
-
-    read-is : early .read ≡ listOf text before it 0
-    unfolding earlyOf
-    read-is = ap (λ (x : Early). x .read) e
-
-    write-is : early .write ≡ listOf text before it 1
-    unfolding earlyOf
-    write-is = ap (λ (x : Early). x .write) e
+    parts-are = (ap (λ (x : Early). x .fault) e, ap (λ (x : Early). x .read) e, ap (λ (x : Early). x .write) e)
 
     pub judged-early : {r : Judging} → (early .fault .number ≡ 0 → ⊥) → r ≡ faulted j (early .fault) → stateOf r ps rs vs ≡ judgeVariable text before it
-    unfolding judgeVariable stateOf faulted
-    judged-early z h = rw (h, ← fault-is, ne-eqb (early .fault .number) 0 z)
+    unfolding judgeVariable unlessBroken isFault stopped stateOf faulted
+    judged-early z h = rw (h, ← parts-are .0, ne-eqb (early .fault .number) 0 z)
 
     pub judged-late : {firsts seconds t : List ℕ} {number : ℕ} {late : Fault} {r : Judging} → (early .fault .number ≡ 0) → firsts ≡ firstPieces text before it
         → seconds ≡ secondPieces text before it → t ≡ withVariable vs d firsts seconds (early .read) (early .write)
         → number ≡ lowest (variableFault rs t (countOf vs)) (cond (badBehaviours (d .rest .behaviours) (early .read) (early .write)) 13 0)
         → late ≡ faultIf (not (eqb number 0)) number (d .place) → r ≡ faulted j late → stateOf r ps rs t ≡ judgeVariable text before it
-    unfolding judgeVariable stateOf readOf lateNumber faulted
-    judged-late z f s t m l h = rw (h, ← fault-is, eq-eqb (early .fault .number) 0 z, l, m, t, read-is, write-is, f, s)
+    unfolding judgeVariable unlessBroken isFault addedVariable withVariables stateOf readOf lateNumber faulted
+    judged-late z f s t m l h = rw (h, ← parts-are .0, eq-eqb (early .fault .number) 0 z, l, m, t, parts-are .1, parts-are .2, f, s)

@@ -1,13 +1,11 @@
 -- Judging the device and a parameter: rules 6, 8 and 12, and the entry that it gets.
 use Prim.Native.Nat.{ℕ}
 use mathlib.Core.List.{List, _∷_}
-use Rattle.token.specs.Kind.{pick}
 use Rattle.syntax.specs.declared.reader.Named.{Named}
 use Rattle.syntax.specs.Parameter.{ParameterRead}
 use Rattle.tables.specs.Tables.{countOf}
 use Rattle.tables.specs.Rules.{parameterFault}
-use Rattle.rules.specs.Fault.{isFault}
-use Rattle.rules.specs.State.{State, stopped, withParameters}
+use Rattle.rules.specs.State.{State, unlessBroken, withParameters}
 use Rattle.rules.specs.Names.{declaredBefore}
 use Rattle.rules.specs.Words.{wordOf, appended}
 
@@ -28,7 +26,4 @@ addedParameter s d =
 
 -- 6, then 8 and 12
 unfoldable pub judgeParameter : List ℕ → State → ParameterRead → State
-judgeParameter text s d =
-    pick (isFault (declaredBefore text s (d .parameter .place) (d .parameter .length)))
-    (stopped s (declaredBefore text s (d .parameter .place) (d .parameter .length)))
-    (addedParameter s d)
+judgeParameter text s d = unlessBroken s (declaredBefore text s (d .parameter .place) (d .parameter .length)) (addedParameter s d)

@@ -1,6 +1,6 @@
 -- Judging a register: rules 6 to 10 and 12 in the order of document 01, and the entry that it gets.
 use Prim.Native.Nat.{ℕ, _+_}
-use mathlib.Core.Bool.{Bool, true, false, _&&_, _||_, not}
+use mathlib.Core.Bool.{Bool, true, false, _&&_, _||_, not, cond}
 use mathlib.Core.List.{List, [], _∷_, _++_}
 use lib.Dec.{eqb, leb}
 use lib.IntN.{pos, negsuc}
@@ -15,8 +15,8 @@ use Rattle.tables.specs.Rules.{offsetIn, registerFault}
 use Rattle.rules.specs.declared.fault.Fault.{Fault}
 use Rattle.rules.specs.declared.names.Found.{Found}
 use Rattle.rules.specs.declared.mask.Mask.{Mask}
-use Rattle.rules.specs.Fault.{faultIf, only, isFault, orElse}
-use Rattle.rules.specs.State.{State, stopped, withRegisters}
+use Rattle.rules.specs.Fault.{faultIf, only, orElse}
+use Rattle.rules.specs.State.{State, unlessBroken, withRegisters}
 use Rattle.rules.specs.Names.{nameOf, parameterNamed, isNothing, indexOf, declaredBefore}
 use Rattle.rules.specs.Words.{wordOf, appended}
 use Rattle.rules.specs.Mask.{maskText, maskOf}
@@ -60,7 +60,7 @@ portOf r mark = pick (r .two && not (eqb (r .first .mark) mark)) (r .second) (r 
 
 -- the mask of a part: its own, or the bare one, or eight dots
 unfoldable pub partMask : List ℕ → Masks → ℕ → ℕ → Mask
-partMask text masks own quote = maskOf (maskText text (leb 1 (masks .bare + own)) (pick (eqb own 0) (masks .whole) quote))
+partMask text masks own quote = maskOf (maskText text (leb 1 (masks .bare + own)) (cond (eqb own 0) (masks .whole) quote))
 
 -- present, parameter, offset, dots, fixed, ones; six zeros where the part is missing
 unfoldable pub partEntry : Bool → ℕ → ℕ → Mask → List ℕ
@@ -91,7 +91,7 @@ unknownPort text ps p = faultIf (isNothing (portFound text ps p)) 7 (p .place)
 -- 8, at the `@`, or at the declared name where the offset is left out
 unfoldable pub badOffset : List ℕ → List ℕ → ℕ → Port → Fault
 badOffset text ps place p =
-    faultIf (not (isNatural (p .worth) && offsetIn ps (indexOf (portFound text ps p)) (naturalOf (p .worth)))) 8 (pick (p .given) (p .sign) place)
+    faultIf (not (isNatural (p .worth) && offsetIn ps (indexOf (portFound text ps p)) (naturalOf (p .worth)))) 8 (cond (p .given) (p .sign) place)
 
 -- 6 to 9, as the register is written
 unfoldable pub registerWritten : List ℕ → State → Register → Fault
@@ -111,4 +111,4 @@ addedRegister text s r =
 
 -- 6 to 9, then 10 and 12
 unfoldable pub judgeRegister : List ℕ → State → Register → State
-judgeRegister text s r = pick (isFault (registerWritten text s r)) (stopped s (registerWritten text s r)) (addedRegister text s r)
+judgeRegister text s r = unlessBroken s (registerWritten text s r) (addedRegister text s r)

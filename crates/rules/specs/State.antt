@@ -33,7 +33,11 @@ unfoldable pub stopped : State → Fault → State
 stopped s f =
     record { place = s .place; extent = s .extent; parameters = s .parameters; registers = s .registers; variables = s .variables; fault = f }
 
--- with other parameters, or other registers, and what the rules say of them
+-- what is broken before there is an entry stops the judging; else the state with the entry says what comes of it
+unfoldable pub unlessBroken : State → Fault → State → State
+unlessBroken s before entered = pick (isFault before) (stopped s before) entered
+
+-- with other parameters, registers or variables, and what the rules say of them
 unfoldable pub withParameters : State → List ℕ → Fault → State
 withParameters s table f =
     record { place = s .place; extent = s .extent; parameters = table; registers = s .registers; variables = s .variables; fault = f }
@@ -41,3 +45,7 @@ withParameters s table f =
 unfoldable pub withRegisters : State → List ℕ → Fault → State
 withRegisters s table f =
     record { place = s .place; extent = s .extent; parameters = s .parameters; registers = table; variables = s .variables; fault = f }
+
+unfoldable pub withVariables : State → List ℕ → Fault → State
+withVariables s table f =
+    record { place = s .place; extent = s .extent; parameters = s .parameters; registers = s .registers; variables = table; fault = f }

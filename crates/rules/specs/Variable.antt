@@ -5,7 +5,6 @@ use mathlib.Core.Bool.{Bool, _&&_, _||_, not, cond}
 use mathlib.Core.List.{List, [], _∷_}
 use lib.Dec.{eqb, leb}
 use lib.ListN.{set}
-use Rattle.token.specs.Kind.{pick}
 use Rattle.syntax.specs.declared.attribute.Behaviours.{Behaviours}
 use Rattle.syntax.specs.declared.variable.Variable.{Variable}
 use Rattle.syntax.specs.Variable.{VariableRead}
@@ -16,7 +15,7 @@ use Rattle.rules.specs.declared.fault.Fault.{Fault}
 use Rattle.rules.specs.declared.variable.Early.{Early}
 use Rattle.rules.specs.Fault.{faultIf, orElse}
 use Rattle.rules.specs.Words.{wordOf, written}
-use Rattle.rules.specs.State.{State}
+use Rattle.rules.specs.State.{State, unlessBroken, withVariables}
 use Rattle.rules.specs.Names.{declaredBefore}
 use Rattle.rules.specs.Lists.{unknownIn, piecesOf, listFor, partWords}
 
@@ -98,25 +97,13 @@ module _ (text : List ℕ) (s : State) (it : VariableRead) where
       lowest (variableFault (s .registers) variablesWith (countOf (s .variables)))
       (cond (badBehaviours (it .variable .rest .behaviours) (listOf 0) (listOf 1)) 13 0)
 
+  -- the entry is written, then judged
+  unfoldable pub addedVariable : State
+  addedVariable = withVariables s variablesWith (faultIf (not (eqb lateNumber 0)) lateNumber (it .variable .place))
+
+  -- 6, 7 and 11 by the lists, then 11 to 15
   unfoldable pub judgeVariable : State
-  judgeVariable =
-      pick (eqb (earlyFault .number) 0)
-      (record {
-        place = s .place;
-        extent = s .extent;
-        parameters = s .parameters;
-        registers = s .registers;
-        variables = variablesWith;
-        fault = faultIf (not (eqb lateNumber 0)) lateNumber (it .variable .place);
-      })
-      (record {
-        place = s .place;
-        extent = s .extent;
-        parameters = s .parameters;
-        registers = s .registers;
-        variables = s .variables;
-        fault = earlyFault;
-      })
+  judgeVariable = unlessBroken s earlyFault addedVariable
 
 -- ── the maps that the code carries ──
 

@@ -1,7 +1,7 @@
 // Rule 6: one name space for all.
 ghost use mathlib.Core.Path.{_≡_};
 ghost use Rattle.rules.specs.Names.{declaredBefore};
-ghost use Rattle.rules.specs.State.{stateOf};
+ghost use Rattle.rules.specs.State.{stateOf, faulted};
 use crate::fault;
 use crate::fault::Fault;
 use crate::names;
@@ -11,6 +11,17 @@ pub struct Judging {
     pub place: usize,
     pub extent: usize,
     pub fault: Fault,
+}
+
+// The same device, with what the rules say now.
+pub fn with_fault(judging: Judging, fault: Fault) -> Judging
+    ensures { λ r. ⌜ r ≡ faulted judging fault ⌝ }
+{
+    Judging {
+        place: judging.place,
+        extent: judging.extent,
+        fault,
+    }
 }
 
 // Rule 6, of a name that is declared at a place.

@@ -22,14 +22,7 @@ pub fn no_fault() -> Fault
 pub fn fault_if(broken: bool, number: u32, place: usize) -> Fault
     ensures { λ r. ⌜ r ≡ faultIf broken number place ⌝ }
 {
-    if broken {
-        Fault { number, place }
-    } else {
-        Fault {
-            number: 0,
-            place: 0,
-        }
-    }
+    only(broken, Fault { number, place })
 }
 
 // The first of two faults that is one. Rules listed by it keep the order of document 01.

@@ -1,7 +1,6 @@
 // The bit lists of a variable: the registers that they name, and which list gives which part.
 ghost use mathlib.Core.Path.{_≡_};
 ghost use Prim.Native.Nat.{_+_, _*_, _<_, _≤_, _^_};
-ghost use mathlib.Core.Bool.{cond};
 ghost use mathlib.Core.List.{[], _∷_};
 ghost use lib.ListN.{getD, length};
 ghost use Rattle.rules.specs.Words.{wordOf, written};
@@ -15,6 +14,7 @@ use crate::names::find;
 use crate::names::index_of;
 use crate::names::is_nothing;
 use crate::names::name_of;
+use crate::words::choose;
 use crate::words::narrow;
 use crate::words::put;
 use crate::words::store;
@@ -98,13 +98,6 @@ pub fn is_paired(variable: Variable) -> bool
     (variable.rest.count == 0)
         | ((variable.mark == 1) & (variable.rest.mark == 2))
         | ((variable.mark == 2) & (variable.rest.mark == 1))
-}
-
-// One of two numbers, by a test.
-pub fn choose(test: bool, yes: usize, no: usize) -> usize
-    ensures { λ r. ⌜ r ≡ cond test yes no ⌝ }
-{
-    if test { yes } else { no }
 }
 
 // Which list gives the part: 1 for the first, 2 for the second, 0 for none.

@@ -1,6 +1,7 @@
 // Judging a parameter: rules 6, 8 and 12.
 use crate::declared;
 use crate::declared::Judging;
+use crate::declared::with_fault;
 use crate::fault;
 use crate::fault::Fault;
 use crate::words;
@@ -14,17 +15,6 @@ ghost use lib.ListN.{length};
 ghost use Rattle.rules.specs.State.{stateOf, unlessStopped};
 ghost use Rattle.rules.specs.Words.{appended};
 ghost use Rattle.rules.specs.Parameter.{judgeDevice, parameterEntry, judgeParameter};
-
-// The same device, with a fault.
-pub fn stop(judging: Judging, fault: Fault) -> Judging
-    ensures { λ r. ⌜ r ≡ record { place = judging .place; extent = judging .extent; fault = fault } ⌝ }
-{
-    Judging {
-        place: judging.place,
-        extent: judging.extent,
-        fault,
-    }
-}
 
 // Appends the parameter's entry.
 fn add_parameter(table: &mut [u32], parameter: Parameter, ranges: &[u32])
@@ -72,10 +62,10 @@ pub fn judge_parameter(
         parameter.length,
     );
     if fault::is_fault(six) {
-        return stop(judging, six);
+        return with_fault(judging, six);
     }
     let count = word(parameters, 0);
     add_parameter(parameters, parameter, ranges);
     let number = parameters::parameter_fault(parameters, count);
-    stop(judging, Fault { number, place })
+    with_fault(judging, Fault { number, place })
 }

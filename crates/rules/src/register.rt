@@ -1,13 +1,13 @@
 // Judging a register: rules 6 to 10 and 12.
 use crate::declared;
 use crate::declared::Judging;
+use crate::declared::with_fault;
 use crate::fault;
 use crate::fault::Fault;
 use crate::mask;
 use crate::mask::Mask;
 use crate::names;
 use crate::names::Found;
-use crate::parameter::stop;
 use crate::words;
 use expression::Worth;
 use syntax::Masks;
@@ -18,8 +18,6 @@ use tables::registers;
 use tables::words::word;
 ghost use mathlib.Core.Path.{_≡_};
 ghost use Prim.Native.Nat.{_<_, _^_};
-ghost use lib.Dec.{eqb};
-ghost use Rattle.token.specs.Kind.{pick};
 ghost use Rattle.expression.specs.declared.Worth.the-variants.{Good};
 ghost use Rattle.rules.specs.State.{stateOf, unlessStopped};
 ghost use Rattle.rules.specs.Words.{appended};
@@ -65,14 +63,7 @@ fn unknown_port(text: &[u8], parameters: &[u32], port: Port) -> Fault
     fault::fault_if(names::is_nothing(found), 7, port.place)
 }
 
-// The place of the offset, or of the declared name where it is left out.
-fn offset_place(port: Port, place: usize) -> usize
-    ensures { λ r. ⌜ r ≡ pick (port .given) (port .sign) place ⌝ }
-{
-    if port.given { port.sign } else { place }
-}
-
-// Rule 8, of a port.
+// Rule 8, of a port: at its offset, or at the declared name where that is left out.
 fn bad_offset(text: &[u8], parameters: &[u32], place: usize, port: Port) -> Fault
     ensures { λ r. ⌜ r ≡ badOffset (now (text .entry)) (now (parameters .entry)) place port ⌝ }
 {
@@ -80,7 +71,7 @@ fn bad_offset(text: &[u8], parameters: &[u32], place: usize, port: Port) -> Faul
     let worth = port.worth;
     let offset = natural_of(worth);
     let placed = is_natural(worth) & parameters::offset_in(parameters, index, offset);
-    fault::fault_if(!placed, 8, offset_place(port, place))
+    fault::fault_if(!placed, 8, words::choose(port.given, port.sign, place))
 }
 
 // Rule 9, of the ports.
@@ -167,18 +158,12 @@ fn port_of(register: Register, mark: u8) -> Port
     }
 }
 
-fn quote_of(masks: Masks, own: u8, quote: usize) -> usize
-    ensures { λ r. ⌜ r ≡ pick (eqb own 0) (masks .whole) quote ⌝ }
-{
-    if own == 0 { masks.whole } else { quote }
-}
-
 // The mask of a part: its own, or the bare one, or eight dots.
 fn part_mask(text: &[u8], masks: Masks, own: u8, quote: usize) -> Mask
     ensures { λ r. ⌜ r ≡ partMask (now (text .entry)) masks own quote ⌝ }
 {
     let given = 1 <= (masks.bare as u32) + (own as u32);
-    mask::mask_at(text, given, quote_of(masks, own, quote))
+    mask::mask_at(text, given, words::choose(own == 0, masks.whole, quote))
 }
 
 // The words of a part that is there or not.
@@ -250,11 +235,11 @@ pub fn judge_register(
     }
     let written = register_written(text, judging, parameters, registers, variables, register);
     if fault::is_fault(written) {
-        return stop(judging, written);
+        return with_fault(judging, written);
     }
     let place = register.place;
     let count = word(registers, 0);
     add_register(text, parameters, registers, register);
     let number = registers::register_fault(parameters, registers, count);
-    stop(judging, Fault { number, place })
+    with_fault(judging, Fault { number, place })
 }

@@ -7,10 +7,11 @@ ghost use Rattle.tables.specs.Every.{every};
 ghost use Rattle.tables.specs.Tables.{countOf};
 ghost use Rattle.tables.specs.Rules.{variableFault, variableShape};
 ghost use Rattle.rules.specs.Words.{written};
-ghost use Rattle.rules.specs.State.{stateOf, faulted};
+ghost use Rattle.rules.specs.State.{stateOf};
 ghost use Rattle.rules.specs.Variable.{triggers, headWords, withVariable, badTrigger, badBehaviours, lowest, nameFault, firstPieces, secondPieces, earlyOf, readOf, judgeVariable, Mapped, MappedUnless};
 use crate::declared::Judging;
 use crate::declared::declared_before;
+use crate::declared::with_fault;
 use crate::fault::Fault;
 use crate::fault::fault_if;
 use crate::fault::or_else;
@@ -275,17 +276,6 @@ pub fn early_of(
     let unpaired = fault_if((read == 0) & (write == 0), 11, variable.place);
     let fault = or_else(names, unpaired);
     Early { fault, read, write }
-}
-
-// The same device, with what the rules say now.
-pub fn with_fault(judging: Judging, fault: Fault) -> Judging
-    ensures { λ r. ⌜ r ≡ faulted judging fault ⌝ }
-{
-    Judging {
-        place: judging.place,
-        extent: judging.extent,
-        fault,
-    }
 }
 
 // Judges a variable against the tables so far. Its fault is named where a rule is broken; else the tables and the maps have it.

@@ -1,5 +1,6 @@
 // Storing words into a lent table.
 ghost use mathlib.Core.Path.{_≡_};
+ghost use mathlib.Core.Bool.{cond};
 ghost use Prim.Native.Nat.{_+_, _<_, _^_, min};
 ghost use lib.ListN.{length, set, replicate};
 ghost use Rattle.rules.specs.Words.{wordOf, written};
@@ -32,6 +33,13 @@ pub fn count_one(table: &mut [u32], count: usize)
     ensures { λ _. ⌜ now (table .exit) ≡ set (now (table .entry)) 0 (wordOf (count + 1)) ⌝ }
 {
     put(table, 0, narrow(count + 1));
+}
+
+// One of two numbers, by a test.
+pub fn choose(test: bool, yes: usize, no: usize) -> usize
+    ensures { λ r. ⌜ r ≡ cond test yes no ⌝ }
+{
+    if test { yes } else { no }
 }
 
 pub fn least(a: usize, b: usize) -> usize

@@ -1,15 +1,15 @@
 -- `rules::fault::fault_if` meets its contract.
-use Rattle.rules.specs.Fault.{noFault, faultIf}
+use Rattle.rules.specs.Fault.{only, faultIf}
+use borrow.Author.Needs.{needs}
 use Rattle.rules.proofs.fault.fault_if.Statement.{statement}
 use Rattle.rules.proofs.fault.fault_if.Tie as tie
 
-returns : tie.Need-returns
-unfolding faultIf noFault
-returns c = rw (c .if1 .taken)
+only-requires : tie.Need-only-requires
+only-requires c κs = search needs
 
-returns-2 : tie.Need-returns-2
-unfolding faultIf noFault
-returns-2 c = rw (c .if1 .left)
+returns : tie.Need-returns
+unfolding faultIf only
+returns c = c .only .ensures
 
 pub fault-if-spec : {M : Type 1} → statement M
-fault-if-spec = tie.close (tie.spec returns returns-2)
+fault-if-spec = tie.close (tie.spec only-requires returns)

@@ -23,15 +23,15 @@ offset-in-requires : tie.Need-offset-in-requires
 unfolding portFound
 offset-in-requires c κs = rw (c .before .before .index-of .ensures, c .before .before .before .port-found .ensures) (index-small _ _ _ _ (omega (arith, c .before .before .before .before .shared-slice-known2 .given 0)))
 
-offset-place-requires : tie.Need-offset-place-requires
-offset-place-requires c κs = search needs
+choose-requires : tie.Need-choose-requires
+choose-requires c κs = search needs
 
 fault-if-requires : tie.Need-fault-if-requires
 fault-if-requires c κs = search needs
 
 returns : tie.Need-returns
 unfolding badOffset
-returns c = c .fault-if .ensures ∙ rw (c .before .offset-place .ensures, c .before .before .offset-in .ensures, c .before .before .before .is-natural .ensures, c .before .before .before .before .natural-of .ensures, c .before .before .before .before .before .index-of .ensures, c .before .before .before .before .before .before .port-found .ensures)
+returns c = c .fault-if .ensures ∙ rw (c .before .choose .ensures, c .before .before .offset-in .ensures, c .before .before .before .is-natural .ensures, c .before .before .before .before .natural-of .ensures, c .before .before .before .before .before .index-of .ensures, c .before .before .before .before .before .before .port-found .ensures)
 
 pub bad-offset-spec : {M : Type 1} → statement M
 bad-offset-spec =
@@ -42,6 +42,6 @@ bad-offset-spec =
     natural-of-requires
     is-natural-requires
     offset-in-requires
-    offset-place-requires
+    choose-requires
     fault-if-requires
     returns)

@@ -11,16 +11,16 @@ cast-given c = search needs
 add-given : tie.Need-add-given
 add-given c = search needs
 
-quote-of-requires : tie.Need-quote-of-requires
-quote-of-requires c κs = search needs
+choose-requires : tie.Need-choose-requires
+choose-requires c κs = search needs
 
 mask-at-requires : tie.Need-mask-at-requires
 mask-at-requires c κs = search needs
 
 returns : tie.Need-returns
 unfolding partMask
-returns c = c .mask-at .ensures ∙ rw (c .before .quote-of .ensures)
+returns c = c .mask-at .ensures ∙ rw (c .before .choose .ensures)
 
 pub part-mask-spec : {M : Type 1} → statement M
 part-mask-spec =
-    tie.close (tie.spec cast-given add-given quote-of-requires mask-at-requires returns)
+    tie.close (tie.spec cast-given add-given choose-requires mask-at-requires returns)
