@@ -9,13 +9,13 @@ use lib.Dec.{eqb}
 use lib.ListN.{length, getD}
 use Rattle.token.specs.Bytes.{bytes, same}
 use Rattle.script.specs.Words.{wordOf, restOf, ahead, wordsOf}
-use Rattle.script.specs.Numbers.{numberOf}
+use Rattle.script.specs.Numbers.{numberOf, valueOf}
 use Rattle.script.specs.declared.numbers.Number.{Number}
 use Rattle.script.specs.declared.numbers.Number.the-variants as number
 use Rattle.script.specs.declared.numbers.Value.{Value}
 use Rattle.replay.specs.declared.call.Call.{Call}
 use Rattle.replay.specs.declared.call.Call.the-variants.{Nothing, Lookup, Unknown}
-use Rattle.replay.specs.Fields.{isNone, onlyNumber, onlyValue, belowOf}
+use Rattle.replay.specs.Fields.{isNone, onlyWord, belowOf}
 use Rattle.replay.specs.Calls.{chosen, bareOf, lookupOf, writing, writeOf, isAll, amountOf, lent, lendOf, held, heldOf, holding, holdOf, callBy, isSkipped, callOf}
 use Rattle.replay.proofs.FieldLaws.{no-number, split}
 
@@ -46,7 +46,7 @@ skipped-empty (x ∷ word) h = absurd (omega arith)
 
 -- ── words that are missing ──
 
-write-first : (word : List ℕ) (z : Value) (more : List (List ℕ)) → z ≡ onlyValue more → writing (numberOf word) z ≡ writeOf (ahead word more)
+write-first : (word : List ℕ) (z : Value) (more : List (List ℕ)) → z ≡ valueOf (onlyWord more) → writing (numberOf word) z ≡ writeOf (ahead word more)
 unfolding ahead writing writeOf
 write-first [] z more e = rw no-number
 write-first (x ∷ word) z more e = rw e
@@ -73,7 +73,7 @@ held-no-step reading (number.Is v) pattern = refl
 held-no-step reading number.Nothing pattern = refl
 
 held-first :
-    (reading : Bool) (word next : List ℕ) (pattern : Number) (more : List (List ℕ)) → pattern ≡ belowOf (2 ^ 32) (onlyNumber more)
+    (reading : Bool) (word next : List ℕ) (pattern : Number) (more : List (List ℕ)) → pattern ≡ belowOf (2 ^ 32) (numberOf (onlyWord more))
     → held reading (numberOf word) (numberOf next) pattern ≡ heldOf reading (ahead word (ahead next more))
 unfolding ahead held heldOf
 held-first reading [] next pattern more e = rw no-number
@@ -92,7 +92,7 @@ module _ (line first tail : List ℕ) (is-first : first ≡ wordOf line) (is-res
   whole : wordsOf line ≡ ahead first (wordsOf tail)
   whole = split line first is-first tail is-rest
 
-  pub write-so : (v : Number) (z : Value) → v ≡ numberOf first → z ≡ onlyValue (wordsOf tail) → writing v z ≡ writeOf (wordsOf line)
+  pub write-so : (v : Number) (z : Value) → v ≡ numberOf first → z ≡ valueOf (onlyWord (wordsOf tail)) → writing v z ≡ writeOf (wordsOf line)
   write-so v z is-v is-z = ap (λ (n : Number). writing n z) is-v ∙ write-first first z (wordsOf tail) is-z ∙ ap writeOf (sym whole)
 
   module _ (is-all alone : Bool) (a : is-all ≡ same first (bytes "all")) (b : alone ≡ isNone (wordsOf tail)) where
@@ -103,7 +103,7 @@ module _ (line first tail : List ℕ) (is-first : first ≡ wordOf line) (is-res
     unfolding amountOf
     amount-all h = rw (sym all-so ∙ h)
 
-    pub amount-some : (n : Number) → n ≡ onlyNumber (wordsOf line) → (is-all && alone) ≡ false → n ≡ amountOf (wordsOf line)
+    pub amount-some : (n : Number) → n ≡ numberOf (onlyWord (wordsOf line)) → (is-all && alone) ≡ false → n ≡ amountOf (wordsOf line)
     unfolding amountOf
     amount-some n e h = rw (sym all-so ∙ h) e
 
@@ -115,7 +115,7 @@ module _ (line first tail : List ℕ) (is-first : first ≡ wordOf line) (is-res
 
   pub held-so :
       (reading : Bool) (next more : List ℕ) → next ≡ wordOf tail → more ≡ restOf tail
-      → (v step pattern : Number) → v ≡ numberOf first → step ≡ numberOf next → pattern ≡ belowOf (2 ^ 32) (onlyNumber (wordsOf more))
+      → (v step pattern : Number) → v ≡ numberOf first → step ≡ numberOf next → pattern ≡ belowOf (2 ^ 32) (numberOf (onlyWord (wordsOf more)))
       → held reading v step pattern ≡ heldOf reading (wordsOf line)
   held-so reading next more is-next is-more v step pattern is-v is-step is-pattern =
       ap (λ (n : Number). held reading n step pattern) is-v

@@ -14,13 +14,13 @@ use Rattle.script.proofs.WordLaws.{words-first, rest-shorter}
 use Rattle.script.specs.declared.numbers.Number.{Number}
 use Rattle.script.specs.declared.numbers.Number.the-variants.{Is, Nothing}
 use Rattle.script.specs.declared.numbers.Value.the-variants as value
-use Rattle.replay.specs.Fields.{isNone, onlyNumber, onlyValue, belowOf, isSome, countFrom, byteOf, stored, laid}
+use Rattle.replay.specs.Fields.{isNone, onlyWord, belowOf, isSome, countFrom, byteOf, stored, laid}
 
 pub no-number : numberOf [] ≡ Nothing
 unfolding numberOf figures begins
 no-number = refl
 
-no-value : valueOf [] ≡ value.Nothing
+pub no-value : valueOf [] ≡ value.Nothing
 unfolding valueOf natural numberOf figures begins
 no-value = refl
 
@@ -30,29 +30,18 @@ unfolding ahead isNone
 ahead-none [] more = refl
 ahead-none (x ∷ word) more = ne-eqb (length (x ∷ word)) 0 (λ e. omega arith)
 
-number-alone : (word : List ℕ) (more : List (List ℕ)) → isNone more ≡ true → numberOf word ≡ onlyNumber (ahead word more)
-unfolding ahead isNone onlyNumber
-number-alone [] more h = no-number
-number-alone (x ∷ word) [] h = refl
-number-alone (x ∷ word) (next ∷ more) h = absurd (false≢true h)
+-- a word with nothing behind it is the only one, and one with more behind it is not
+alone : (word : List ℕ) (more : List (List ℕ)) → isNone more ≡ true → word ≡ onlyWord (ahead word more)
+unfolding ahead isNone onlyWord
+alone [] more h = refl
+alone (x ∷ word) [] h = refl
+alone (x ∷ word) (next ∷ more) h = absurd (false≢true h)
 
-number-not : (word : List ℕ) (more : List (List ℕ)) → isNone more ≡ false → Nothing ≡ onlyNumber (ahead word more)
-unfolding ahead isNone onlyNumber
-number-not [] more h = refl
-number-not (x ∷ word) [] h = absurd (false≢true (sym h))
-number-not (x ∷ word) (next ∷ more) h = refl
-
-value-alone : (word : List ℕ) (more : List (List ℕ)) → isNone more ≡ true → valueOf word ≡ onlyValue (ahead word more)
-unfolding ahead isNone onlyValue
-value-alone [] more h = no-value
-value-alone (x ∷ word) [] h = refl
-value-alone (x ∷ word) (next ∷ more) h = absurd (false≢true h)
-
-value-not : (word : List ℕ) (more : List (List ℕ)) → isNone more ≡ false → value.Nothing ≡ onlyValue (ahead word more)
-unfolding ahead isNone onlyValue
-value-not [] more h = refl
-value-not (x ∷ word) [] h = absurd (false≢true (sym h))
-value-not (x ∷ word) (next ∷ more) h = refl
+not-alone : (word : List ℕ) (more : List (List ℕ)) → isNone more ≡ false → [] ≡ onlyWord (ahead word more)
+unfolding ahead isNone onlyWord
+not-alone [] more h = refl
+not-alone (x ∷ word) [] h = absurd (false≢true (sym h))
+not-alone (x ∷ word) (next ∷ more) h = refl
 
 -- a line, its first word and what follows it, as the code cuts them out
 module _ (line first : List ℕ) (is-first : first ≡ wordOf line) where
@@ -62,21 +51,13 @@ module _ (line first : List ℕ) (is-first : first ≡ wordOf line) where
   pub bare-so : eqb (length first) 0 ≡ isNone (wordsOf line)
   bare-so = ahead-none first (wordsOf (restOf line)) ∙ ap isNone (sym (split (restOf line) refl))
 
--- the same of a line whose first word may be left out
+-- the only word of a line
 module _ (line tail : List ℕ) (is-rest : tail ≡ restOf line) where
-  module _ (first : List ℕ) (is-first : first ≡ wordOf line) (alone : isNone (wordsOf tail) ≡ true) where
-    pub only-number-so : numberOf first ≡ onlyNumber (wordsOf line)
-    only-number-so = number-alone first (wordsOf tail) alone ∙ ap onlyNumber (sym (split line first is-first tail is-rest))
+  pub only-so : (first : List ℕ) → first ≡ wordOf line → isNone (wordsOf tail) ≡ true → first ≡ onlyWord (wordsOf line)
+  only-so first is-first none = alone first (wordsOf tail) none ∙ ap onlyWord (sym (split line first is-first tail is-rest))
 
-    pub only-value-so : valueOf first ≡ onlyValue (wordsOf line)
-    only-value-so = value-alone first (wordsOf tail) alone ∙ ap onlyValue (sym (split line first is-first tail is-rest))
-
-  module _ (more : isNone (wordsOf tail) ≡ false) where
-    pub only-number-not : Nothing ≡ onlyNumber (wordsOf line)
-    only-number-not = number-not (wordOf line) (wordsOf tail) more ∙ ap onlyNumber (sym (split line (wordOf line) refl tail is-rest))
-
-    pub only-value-not : value.Nothing ≡ onlyValue (wordsOf line)
-    only-value-not = value-not (wordOf line) (wordsOf tail) more ∙ ap onlyValue (sym (split line (wordOf line) refl tail is-rest))
+  pub only-not : isNone (wordsOf tail) ≡ false → [] ≡ onlyWord (wordsOf line)
+  only-not more = not-alone (wordOf line) (wordsOf tail) more ∙ ap onlyWord (sym (split line (wordOf line) refl tail is-rest))
 
 -- a number that is below a limit is
 pub below-less : (limit : ℕ) (n : Number) (b : ℕ) → belowOf limit n ≡ Is b → b < limit

@@ -11,9 +11,8 @@ use Rattle.station.specs.declared.Outcome.{Outcome}
 use Rattle.replay.specs.declared.call.Request.{Request}
 use Rattle.replay.specs.declared.session.Session.{Session}
 use Rattle.replay.specs.declared.session.Reply.{Reply}
-use Rattle.replay.specs.declared.session.Reply.the-variants.{Answered}
 use Rattle.replay.specs.declared.session.Turn.{Turn}
-use Rattle.replay.specs.Sessions.{sessionOf, turnOf, lentOf, isOpening, isOpened, requested, After, Leaves, heldBy, markedBy, askedWith, asked, unchanged}
+use Rattle.replay.specs.Sessions.{turnOf, lentOf, isOpening, answered, requested, After, Leaves, heldBy, markedBy, askedWith, asked, unchanged}
 
 pub stays :
     (kept marks : List ℕ) (session : Session) (reply : Reply) (turn : Turn) → turn ≡ turnOf session reply
@@ -42,16 +41,15 @@ module _ (t : Tables) (power kept marks : List ℕ) (session : Session) (request
   -- and the station's call leaves and answers the rest
   pub asks :
       (held marked : ℕ) (after : After) → after ≡ askedWith t power kept marks session request held marked
-      → (kept′ marks′ : List ℕ) (given : Outcome) (opened : Bool)
+      → (kept′ marks′ : List ℕ) (given : Outcome) (turn : Turn)
       → Meets (requested t power (lent (take held kept) (take marked marks) (session .operation)) request) kept′ marks′ given
-      → opened ≡ isOpened (given .answer)
-      → Leaves after (kept′ ++ drop held kept) (marks′ ++ drop marked marks)
-      (turnOf (sessionOf (session .opened || opened) (session .bytes) (session .marks) (given .operation)) (Answered (given .answer)))
+      → turn ≡ answered session (given .answer) (given .operation)
+      → Leaves after (kept′ ++ drop held kept) (marks′ ++ drop marked marks) turn
   unfolding askedWith
-  asks held marked after is kept′ marks′ given opened meets is-opened =
+  asks held marked after is kept′ marks′ given turn meets is-turn =
       rw is
       (record {
-        turn-is = rw (is-opened, meets .answer-is, meets .operation-is);
+        turn-is = is-turn ∙ rw (meets .answer-is, meets .operation-is);
         kept-is = rw (meets .kept-is);
         marks-is = rw (meets .marks-is);
       })

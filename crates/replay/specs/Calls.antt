@@ -5,7 +5,7 @@ use Prim.Native.Nat.{ℕ, _-_, _^_}
 use Prim.Native.Char.{code}
 use lib.Dec.{eqb}
 use Rattle.token.specs.Bytes.{bytes, same}
-use Rattle.script.specs.Numbers.{numberOf}
+use Rattle.script.specs.Numbers.{numberOf, valueOf}
 use Rattle.script.specs.declared.numbers.Number.{Number}
 use Rattle.script.specs.declared.numbers.Number.the-variants as number
 use Rattle.script.specs.declared.numbers.Value.{Value}
@@ -15,7 +15,7 @@ use Rattle.station.specs.declared.Operation.the-variants.{Idle, Reading, Writin
 use Rattle.replay.specs.declared.call.Request.the-variants.{Open, Read, Write, Confirm, Abandon}
 use Rattle.replay.specs.declared.call.Call.{Call}
 use Rattle.replay.specs.declared.call.Call.the-variants.{Nothing, Station, Lookup, State, LendRecord, LendMarks, Hold, Unknown}
-use Rattle.replay.specs.Fields.{isNone, onlyNumber, onlyValue, belowOf, countFrom}
+use Rattle.replay.specs.Fields.{isNone, onlyWord, belowOf, countFrom}
 
 -- the call of the first test that holds
 unfoldable pub chosen : List (Bool × Call) → Call
@@ -49,7 +49,7 @@ writing number.Nothing z = Unknown
 
 unfoldable pub writeOf : List (List ℕ) → Call
 writeOf [] = Unknown
-writeOf (v ∷ words) = writing (numberOf v) (onlyValue words)
+writeOf (v ∷ words) = writing (numberOf v) (valueOf (onlyWord words))
 
 -- `confirm B`
 unfoldable pub confirming : Number → Call
@@ -65,7 +65,7 @@ isAll [] = false
 isAll (word ∷ words) = same word (bytes "all") && isNone words
 
 unfoldable pub amountOf : List (List ℕ) → Number
-amountOf words = cond (isAll words) (number.Is (2 ^ 64 - 1)) (onlyNumber words)
+amountOf words = cond (isAll words) (number.Is (2 ^ 64 - 1)) (numberOf (onlyWord words))
 
 unfoldable pub lent : List ℕ → Number → Call
 lent what (number.Is k) = chosen ((same what (bytes "record"), LendRecord k) ∷ (same what (bytes "marks"), LendMarks k) ∷ [])
@@ -89,7 +89,7 @@ held reading number.Nothing step pattern = Unknown
 unfoldable pub heldOf : Bool → List (List ℕ) → Call
 heldOf reading [] = Unknown
 heldOf reading (v ∷ []) = Unknown
-heldOf reading (v ∷ step ∷ words) = held reading (numberOf v) (numberOf step) (belowOf (2 ^ 32) (onlyNumber words))
+heldOf reading (v ∷ step ∷ words) = held reading (numberOf v) (numberOf step) (belowOf (2 ^ 32) (numberOf (onlyWord words)))
 
 unfoldable pub holding : List ℕ → List (List ℕ) → Call
 holding what words =
@@ -107,9 +107,9 @@ holdOf (what ∷ words) = holding what words
 
 abbrev pub operations : List ℕ → List (List ℕ) → List (Bool × Call)
 operations verb words =
-    (same verb (bytes "read"), readOf (onlyNumber words))
+    (same verb (bytes "read"), readOf (numberOf (onlyWord words)))
     ∷ (same verb (bytes "write"), writeOf words)
-    ∷ (same verb (bytes "confirm"), confirmOf (onlyNumber words))
+    ∷ (same verb (bytes "confirm"), confirmOf (numberOf (onlyWord words)))
     ∷ (same verb (bytes "abandon"), bareOf words (Station Abandon))
     ∷ []
 

@@ -4,26 +4,19 @@ use mathlib.Core.List.{List, [], _∷_}
 use Prim.Native.Nat.{ℕ, _+_}
 use lib.Dec.{ltb}
 use lib.ListN.{set, replicate}
-use Rattle.script.specs.Numbers.{numberOf, valueOf}
+use Rattle.script.specs.Numbers.{numberOf}
 use Rattle.script.specs.declared.numbers.Number.{Number}
 use Rattle.script.specs.declared.numbers.Number.the-variants as number
-use Rattle.script.specs.declared.numbers.Value.{Value}
-use Rattle.script.specs.declared.numbers.Value.the-variants as value
 
 unfoldable pub isNone : List (List ℕ) → Bool
 isNone [] = true
 isNone (word ∷ more) = false
 
--- the number, or the value, that is the only word
-unfoldable pub onlyNumber : List (List ℕ) → Number
-onlyNumber [] = number.Nothing
-onlyNumber (word ∷ []) = numberOf word
-onlyNumber (word ∷ next ∷ more) = number.Nothing
-
-unfoldable pub onlyValue : List (List ℕ) → Value
-onlyValue [] = value.Nothing
-onlyValue (word ∷ []) = valueOf word
-onlyValue (word ∷ next ∷ more) = value.Nothing
+-- the only word; an empty one, which is no number and no value, where there is none or another follows
+unfoldable pub onlyWord : List (List ℕ) → List ℕ
+onlyWord [] = []
+onlyWord (word ∷ []) = word
+onlyWord (word ∷ next ∷ more) = []
 
 -- the number, if it is less than a limit
 unfoldable pub belowOf : ℕ → Number → Number

@@ -73,16 +73,17 @@ pub record Leaves (after : After) (kept marks : List ℕ) (turn : Turn) : Type 0
   pub kept-is : kept ≡ after .kept
   pub marks-is : marks ≡ after .marks
 
--- the station's call with as much of the record and the marks as is lent; the rest of both stays
-abbrev pub answered : Session → Came → ℕ → ℕ → List ℕ → List ℕ → After
-answered session came held marked kept marks =
+-- what the station's call leaves and answers, with as much of the record and the marks as is lent; the rest of both stays
+abbrev pub answered : Session → Answer → Operation → Turn
+answered session answer operation =
+    turnOf (sessionOf (session .opened || isOpened answer) (session .bytes) (session .marks) operation) (Answered answer)
+
+abbrev pub came : Session → Came → ℕ → ℕ → List ℕ → List ℕ → After
+came session o held marked kept marks =
     record {
-      kept = came .state .kept ++ drop held kept;
-      marks = came .state .marks ++ drop marked marks;
-      turn =
-          turnOf
-          (sessionOf (session .opened || isOpened (came .answer)) (session .bytes) (session .marks) (came .state .operation))
-          (Answered (came .answer));
+      kept = o .state .kept ++ drop held kept;
+      marks = o .state .marks ++ drop marked marks;
+      turn = answered session (o .answer) (o .state .operation);
     }
 
 abbrev pub heldBy : Tables → List ℕ → Session → Request → ℕ
@@ -95,7 +96,7 @@ markedBy t marks session request =
 
 unfoldable pub askedWith : Tables → List ℕ → List ℕ → List ℕ → Session → Request → ℕ → ℕ → After
 askedWith t power kept marks session request held marked =
-    answered session (requested t power (lent (take held kept) (take marked marks) (session .operation)) request) held marked kept marks
+    came session (requested t power (lent (take held kept) (take marked marks) (session .operation)) request) held marked kept marks
 
 unfoldable pub asked : Tables → List ℕ → List ℕ → List ℕ → Session → Request → After
 asked t power kept marks session request =

@@ -2,13 +2,13 @@
 use crate::fields::below;
 use crate::fields::count_bytes;
 use crate::fields::is_bare;
-use crate::fields::only_number;
-use crate::fields::only_value;
+use crate::fields::only_word;
 use script::Number;
 use script::Value;
 use script::is;
 use script::number_of;
 use script::rest;
+use script::value_of;
 use script::word;
 use station::Operation;
 ghost use mathlib.Core.Path.{_≡_};
@@ -88,7 +88,7 @@ fn write_of(tail: &[u8]) -> Call
     ensures { λ r. ⌜ r ≡ writeOf (wordsOf (now (tail .entry))) ⌝ }
 {
     let variable = number_of(word(tail));
-    let value = only_value(rest(tail));
+    let value = value_of(only_word(rest(tail)));
     write(variable, value)
 }
 
@@ -107,13 +107,13 @@ fn operation_of(verb: &[u8], tail: &[u8]) -> Call
     ensures { λ r. ⌜ r ≡ chosen (operations (now (verb .entry)) (wordsOf (now (tail .entry)))) ⌝ }
 {
     if is(verb, b"read") {
-        return read_of(only_number(tail));
+        return read_of(number_of(only_word(tail)));
     }
     if is(verb, b"write") {
         return write_of(tail);
     }
     if is(verb, b"confirm") {
-        return confirm_of(only_number(tail));
+        return confirm_of(number_of(only_word(tail)));
     }
     if is(verb, b"abandon") {
         return bare(tail, Call::Station(Request::Abandon));
@@ -128,7 +128,7 @@ fn amount(tail: &[u8]) -> Number
     if is(word(tail), b"all") & is_bare(rest(tail)) {
         Number::Is(18446744073709551615)
     } else {
-        only_number(tail)
+        number_of(only_word(tail))
     }
 }
 
@@ -194,7 +194,7 @@ fn held_of(reading: bool, tail: &[u8]) -> Call
     let second = rest(tail);
     let variable = number_of(word(tail));
     let step = number_of(word(second));
-    let pattern = below(4294967296, only_number(rest(second)));
+    let pattern = below(4294967296, number_of(only_word(rest(second))));
     hold(reading, variable, step, pattern)
 }
 

@@ -1,13 +1,11 @@
 // What stands behind the first word of a line.
 use script::Number;
-use script::Value;
 use script::number_of;
 use script::rest;
-use script::value_of;
 use script::word;
 ghost use mathlib.Core.Path.{_≡_};
 ghost use Rattle.script.specs.Words.{wordsOf};
-ghost use Rattle.replay.specs.Fields.{isNone, onlyNumber, onlyValue, belowOf, countFrom, byteOf, laid, powerOn, stored};
+ghost use Rattle.replay.specs.Fields.{isNone, onlyWord, belowOf, countFrom, byteOf, laid, powerOn, stored};
 
 pub fn is_bare(tail: &[u8]) -> bool
     ensures { λ r. ⌜ r ≡ isNone (wordsOf (now (tail .entry))) ⌝ }
@@ -16,24 +14,14 @@ pub fn is_bare(tail: &[u8]) -> bool
     first.len() == 0
 }
 
-// The number that is the only word.
-pub fn only_number(tail: &[u8]) -> Number
-    ensures { λ r. ⌜ r ≡ onlyNumber (wordsOf (now (tail .entry))) ⌝ }
+// The only word. An empty one, which is no number and no value, where there is none or another follows.
+pub fn only_word(tail: &[u8]) -> &[u8]
+    ensures { λ r. ⌜ now r ≡ onlyWord (wordsOf (now (tail .entry))) ⌝ }
 {
     if is_bare(rest(tail)) {
-        number_of(word(tail))
+        word(tail)
     } else {
-        Number::Nothing
-    }
-}
-
-pub fn only_value(tail: &[u8]) -> Value
-    ensures { λ r. ⌜ r ≡ onlyValue (wordsOf (now (tail .entry))) ⌝ }
-{
-    if is_bare(rest(tail)) {
-        value_of(word(tail))
-    } else {
-        Value::Nothing
+        &tail[..0]
     }
 }
 

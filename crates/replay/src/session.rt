@@ -13,11 +13,15 @@ use station::Outcome;
 use tables::words::word;
 ghost use mathlib.Core.Path.{_≡_};
 ghost use Prim.Native.Nat.{_≤_, min};
-ghost use Rattle.replay.specs.declared.session.Reply.the-variants.{Lent, Held};
+ghost use lib.ListN.{length, take};
+ghost use Rattle.script.specs.Words.{wordOf, restOf, wordsOf};
+ghost use Rattle.rules.specs.Names.{variableNamed};
+ghost use Rattle.replay.specs.declared.session.Reply.the-variants.{Looked, Lent, Held};
 ghost use Rattle.station.specs.Standing.{tablesOf};
 ghost use Rattle.station.specs.Promise.{Meets};
 ghost use Rattle.station.specs.Promise.{lent as station·lent};
-ghost use Rattle.replay.specs.Sessions.{begun, lentOf, isOpening, isOpened, requested, Leaves, sessionOf, turnOf, asked, performed, replied};
+ghost use Rattle.replay.specs.Fields.{powerOn};
+ghost use Rattle.replay.specs.Sessions.{begun, lentOf, isOpening, isOpened, requested, Leaves, sessionOf, turnOf, answered, asked, performed, replied};
 
 // Whether an opening has succeeded, how many bytes of the record and how many marks are lent at most, and the operation in hand.
 pub struct Session {
@@ -103,6 +107,14 @@ fn is_opened(answer: Answer) -> bool
     }
 }
 
+// The first bytes, as many as there are of that count.
+fn front(bytes: &[u8], count: usize) -> &[u8]
+    ensures { λ r. ⌜ now r ≡ take (min count (length (now (bytes .entry)))) (now (bytes .entry)) ⌝ }
+{
+    let end = least(count, bytes.len());
+    &bytes[..end]
+}
+
 // The five calls.
 fn outcome_of(
     request: Request,
@@ -112,87 +124,48 @@ fn outcome_of(
     variables: &[u32],
     held: &mut [u8],
     marks: &mut [u8],
-    operation: Operation,
+    in_hand: Operation,
 ) -> Outcome
     ensures { λ r. ⌜ Meets
         (requested
         (tablesOf (now (parameters .entry)) (now (registers .entry)) (now (variables .entry)))
         (now (power .entry))
-        (station·lent (now (held .entry)) (now (marks .entry)) operation)
+        (station·lent (now (held .entry)) (now (marks .entry)) «in_hand»)
         request)
         (now (held .exit)) (now (marks .exit)) r ⌝ }
 {
     match request {
         Request::Open(count) => {
-            let given = least(count, power.len());
+            let first = front(power, count);
             station::open(
                 parameters,
                 registers,
                 variables,
-                &power[..given],
+                first,
                 held,
                 marks,
-                operation,
+                in_hand,
             )
         }
         Request::Read(v) => {
-            station::begin_read(parameters, registers, variables, held, marks, operation, v)
+            station::begin_read(parameters, registers, variables, held, marks, in_hand, v)
         }
-        Request::Write(v, value) => station::begin_write(
-            parameters,
-            registers,
-            variables,
-            held,
-            marks,
-            operation,
-            v,
-            value,
-        ),
-        Request::Confirm(byte) => station::confirm(
-            parameters,
-            registers,
-            variables,
-            held,
-            marks,
-            operation,
-            byte,
-        ),
+        Request::Write(v, z) => {
+            station::begin_write(parameters, registers, variables, held, marks, in_hand, v, z)
+        }
+        Request::Confirm(byte) => {
+            station::confirm(parameters, registers, variables, held, marks, in_hand, byte)
+        }
         Request::Abandon => {
-            station::abandon(parameters, registers, variables, held, marks, operation)
+            station::abandon(parameters, registers, variables, held, marks, in_hand)
         }
     }
 }
 
-fn ask(
-    request: Request,
-    power: &[u8],
-    parameters: &[u32],
-    registers: &[u32],
-    variables: &[u32],
-    kept: &mut [u8],
-    marks: &mut [u8],
-    session: Session,
-) -> Turn
-    ensures { λ r. ⌜ Leaves
-        (asked
-        (tablesOf (now (parameters .entry)) (now (registers .entry)) (now (variables .entry)))
-        (now (power .entry)) (now (kept .entry)) (now (marks .entry)) session request)
-        (now (kept .exit)) (now (marks .exit)) r ⌝ }
+// The session after a call of the station, which is the reply.
+fn answered(session: Session, outcome: Outcome) -> Turn
+    ensures { λ r. ⌜ r ≡ answered session (outcome .answer) (outcome .operation) ⌝ }
 {
-    let there = session.opened | is_opening(request);
-    let held = lent(there, session.bytes, word(registers, 0), kept.len());
-    let marked = lent(there, session.marks, word(variables, 0), marks.len());
-    let before = session.operation;
-    let outcome = outcome_of(
-        request,
-        power,
-        parameters,
-        registers,
-        variables,
-        &mut kept[..held],
-        &mut marks[..marked],
-        before,
-    );
     let answer = outcome.answer;
     let operation = outcome.operation;
     let after = Session {
@@ -205,6 +178,41 @@ fn ask(
         session: after,
         reply: Reply::Answered(answer),
     }
+}
+
+// A call of the station, over as much of the record and the marks as is lent.
+fn ask(
+    request: Request,
+    line: &[u8],
+    parameters: &[u32],
+    registers: &[u32],
+    variables: &[u32],
+    kept: &mut [u8],
+    marks: &mut [u8],
+    session: Session,
+) -> Turn
+    ensures { λ r. ⌜ Leaves
+        (asked
+        (tablesOf (now (parameters .entry)) (now (registers .entry)) (now (variables .entry)))
+        (powerOn (wordsOf (restOf (now (line .entry))))) (now (kept .entry)) (now (marks .entry)) session request)
+        (now (kept .exit)) (now (marks .exit)) r ⌝ }
+{
+    let there = session.opened | is_opening(request);
+    let held = lent(there, session.bytes, word(registers, 0), kept.len());
+    let marked = lent(there, session.marks, word(variables, 0), marks.len());
+    let power = power_on(rest(line));
+    let before = session.operation;
+    let outcome = outcome_of(
+        request,
+        &power,
+        parameters,
+        registers,
+        variables,
+        &mut kept[..held],
+        &mut marks[..marked],
+        before,
+    );
+    answered(session, outcome)
 }
 
 // The line changes nothing.
@@ -239,6 +247,14 @@ fn hold(session: Session, operation: Operation) -> Turn
     stay(after, Reply::Held)
 }
 
+// The variable of the name that stands in the line.
+fn look(line: &[u8], text: &[u8], variables: &[u32]) -> Reply
+    ensures { λ r. ⌜ r ≡ Looked (variableNamed (now (text .entry)) (now (variables .entry)) (wordOf (restOf (now (line .entry))))) ⌝ }
+{
+    let found = loader::lookup(text, variables, script::word(rest(line)));
+    Reply::Looked(found)
+}
+
 fn perform(
     call: Call,
     line: &[u8],
@@ -258,23 +274,17 @@ fn perform(
 {
     match call {
         Call::Nothing => stay(session, Reply::Silence),
-        Call::Station(request) => {
-            let power = power_on(rest(line));
-            ask(
-                request,
-                &power,
-                parameters,
-                registers,
-                variables,
-                kept,
-                marks,
-                session,
-            )
-        }
-        Call::Lookup => {
-            let found = loader::lookup(text, variables, script::word(rest(line)));
-            stay(session, Reply::Looked(found))
-        }
+        Call::Station(request) => ask(
+            request,
+            line,
+            parameters,
+            registers,
+            variables,
+            kept,
+            marks,
+            session,
+        ),
+        Call::Lookup => stay(session, look(line, text, variables)),
         Call::State => stay(session, Reply::Stand),
         Call::LendRecord(count) => lend(session, count, session.marks),
         Call::LendMarks(count) => lend(session, session.bytes, count),

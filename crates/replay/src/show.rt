@@ -13,7 +13,7 @@ ghost use lib.Signed.{_<ℤ_};
 ghost use lib.IntN.{pos, negsuc};
 ghost use mathlib.Core.Path.{_≡_};
 
-const DIGITS: [u8; 16] = *b"0123456789ABCDEF";
+const FIGURES: [u8; 16] = *b"0123456789ABCDEF";
 
 fn say(words: &[u8]) {
     io::write_all(1, words);
@@ -29,7 +29,7 @@ fn hex_after(words: &[u8], b: u8) {
     say(words);
     let high = b / 16;
     let low = b % 16;
-    let pair = [DIGITS[high as usize], DIGITS[low as usize]];
+    let pair = [FIGURES[high as usize], FIGURES[low as usize]];
     say(&pair);
 }
 
@@ -107,18 +107,23 @@ fn operation(held: Operation) {
     }
 }
 
-fn bytes(held: &[u8]) {
-    let mut i = 0;
-    while i < held.len() {
-        hex_after(b" ", held[i]);
-        i += 1;
+// How a byte is written.
+enum Digits {
+    Hex,
+    Decimal,
+}
+
+fn byte_after(words: &[u8], b: u8, digits: Digits) {
+    match digits {
+        Digits::Hex => hex_after(words, b),
+        Digits::Decimal => number_after(words, b as usize),
     }
 }
 
-fn numbers(marks: &[u8]) {
+fn bytes(list: &[u8], digits: Digits) {
     let mut i = 0;
-    while i < marks.len() {
-        number_after(b" ", marks[i] as usize);
+    while i < list.len() {
+        byte_after(b" ", list[i], digits);
         i += 1;
     }
 }
@@ -129,9 +134,9 @@ fn state(registers: &[u32], variables: &[u32], kept: &[u8], marks: &[u8], sessio
     let held = lent(opened, ALL, word(registers, 0), kept.len());
     let marked = lent(opened, ALL, word(variables, 0), marks.len());
     say(b"record");
-    bytes(&kept[..held]);
+    bytes(&kept[..held], Digits::Hex);
     say(b" marks");
-    numbers(&marks[..marked]);
+    bytes(&marks[..marked], Digits::Decimal);
     let in_hand = session.operation;
     operation(in_hand);
     say(b"\n");

@@ -1,6 +1,7 @@
 -- `replay::call::held_of` meets its contract. Assumes nothing.
 use mathlib.Core.Path.{ap, _∙_}
 use Prim.Native.Nat.{_^_}
+use Rattle.script.specs.Numbers.{numberOf}
 use Rattle.replay.specs.Fields.{belowOf}
 use Rattle.replay.proofs.CallLaws.{held-so}
 use borrow.Author.Needs.{needs}
@@ -25,8 +26,11 @@ number-of-requires-2 c κs = search needs
 rest-requires-2 : tie.Need-rest-requires-2
 rest-requires-2 c κs = search needs
 
-only-number-requires : tie.Need-only-number-requires
-only-number-requires c κs = search needs
+only-word-requires : tie.Need-only-word-requires
+only-word-requires c κs = search needs
+
+number-of-requires-3 : tie.Need-number-of-requires-3
+number-of-requires-3 c κs = search needs
 
 below-requires : tie.Need-below-requires
 below-requires c κs = search needs
@@ -35,7 +39,7 @@ hold-requires : tie.Need-hold-requires
 hold-requires c κs = search needs
 
 returns : tie.Need-returns
-returns c = c .hold .ensures ∙ held-so _ _ _ (c .before .before .before .before .before .before .before .word .ensures) (c .before .before .before .before .before .before .before .before .rest .ensures) _ _ _ (c .before .before .before .before .before .word2 .ensures) (c .before .before .before .rest2 .ensures) _ _ _ (c .before .before .before .before .before .before .number-of .ensures) (c .before .before .before .before .number-of2 .ensures) (c .before .below .ensures ∙ ap (belowOf (2 ^ 32)) (c .before .before .only-number .ensures))
+returns c = c .hold .ensures ∙ held-so _ _ _ (c .before .before .before .before .before .before .before .before .word .ensures) (c .before .before .before .before .before .before .before .before .before .rest .ensures) _ _ _ (c .before .before .before .before .before .before .word2 .ensures) (c .before .before .before .before .rest2 .ensures) _ _ _ (c .before .before .before .before .before .before .before .number-of .ensures) (c .before .before .before .before .before .number-of2 .ensures) (c .before .below .ensures ∙ ap (belowOf (2 ^ 32)) (c .before .before .number-of3 .ensures ∙ ap numberOf (c .before .before .before .only-word .ensures)))
 
 pub held-of-spec : {M : Type 1} → statement M
 held-of-spec =
@@ -47,7 +51,8 @@ held-of-spec =
     word-requires-2
     number-of-requires-2
     rest-requires-2
-    only-number-requires
+    only-word-requires
+    number-of-requires-3
     below-requires
     hold-requires
     returns)

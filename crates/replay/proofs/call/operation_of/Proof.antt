@@ -1,5 +1,6 @@
 -- `replay::call::operation_of` meets its contract. Assumes nothing.
 use mathlib.Core.Path.{sym, ap, _∙_}
+use Rattle.script.specs.Numbers.{numberOf}
 use Rattle.replay.specs.Calls.{readOf, confirmOf}
 use Rattle.replay.proofs.CallLaws.{chosen-here, chosen-on, chosen-none}
 use borrow.Author.Needs.{needs}
@@ -12,14 +13,17 @@ slice-aggregate-is c = search needs
 is-requires : tie.Need-is-requires
 is-requires c κs = search needs
 
-only-number-requires : tie.Need-only-number-requires
-only-number-requires c κs = search needs
+only-word-requires : tie.Need-only-word-requires
+only-word-requires c κs = search needs
+
+number-of-requires : tie.Need-number-of-requires
+number-of-requires c κs = search needs
 
 read-of-requires : tie.Need-read-of-requires
 read-of-requires c κs = search needs
 
 returns : tie.Need-returns
-returns c = chosen-here _ _ _ (sym (c .before .before .before .is .ensures) ∙ c .before .before .if1 .taken) (c .read-of .ensures ∙ ap readOf (c .before .only-number .ensures))
+returns c = chosen-here _ _ _ (sym (c .before .before .before .before .is .ensures) ∙ c .before .before .before .if1 .taken) (c .read-of .ensures ∙ ap readOf (c .before .number-of .ensures ∙ ap numberOf (c .before .before .only-word .ensures)))
 
 slice-aggregate-is-2 : tie.Need-slice-aggregate-is-2
 slice-aggregate-is-2 c = search needs
@@ -39,14 +43,17 @@ slice-aggregate-is-3 c = search needs
 is-requires-3 : tie.Need-is-requires-3
 is-requires-3 c κs = search needs
 
-only-number-requires-2 : tie.Need-only-number-requires-2
-only-number-requires-2 c κs = search needs
+only-word-requires-2 : tie.Need-only-word-requires-2
+only-word-requires-2 c κs = search needs
+
+number-of-requires-2 : tie.Need-number-of-requires-2
+number-of-requires-2 c κs = search needs
 
 confirm-of-requires : tie.Need-confirm-of-requires
 confirm-of-requires c κs = search needs
 
 returns-3 : tie.Need-returns-3
-returns-3 c = chosen-on _ _ _ (sym (c .before .before .before .before .before .before .before .before .before .is .ensures) ∙ c .before .before .before .before .before .before .before .before .if1 .left) (chosen-on _ _ _ (sym (c .before .before .before .before .before .before .is2 .ensures) ∙ c .before .before .before .before .before .if2 .left) (chosen-here _ _ _ (sym (c .before .before .before .is3 .ensures) ∙ c .before .before .if3 .taken) (c .confirm-of .ensures ∙ ap confirmOf (c .before .only-number2 .ensures))))
+returns-3 c = chosen-on _ _ _ (sym (c .before .before .before .before .before .before .before .before .before .before .is .ensures) ∙ c .before .before .before .before .before .before .before .before .before .if1 .left) (chosen-on _ _ _ (sym (c .before .before .before .before .before .before .before .is2 .ensures) ∙ c .before .before .before .before .before .before .if2 .left) (chosen-here _ _ _ (sym (c .before .before .before .before .is3 .ensures) ∙ c .before .before .before .if3 .taken) (c .confirm-of .ensures ∙ ap confirmOf (c .before .number-of2 .ensures ∙ ap numberOf (c .before .before .only-word2 .ensures)))))
 
 slice-aggregate-is-4 : tie.Need-slice-aggregate-is-4
 slice-aggregate-is-4 c = search needs
@@ -69,7 +76,8 @@ operation-of-spec =
     (tie.spec
     slice-aggregate-is
     is-requires
-    only-number-requires
+    only-word-requires
+    number-of-requires
     read-of-requires
     returns
     slice-aggregate-is-2
@@ -78,7 +86,8 @@ operation-of-spec =
     returns-2
     slice-aggregate-is-3
     is-requires-3
-    only-number-requires-2
+    only-word-requires-2
+    number-of-requires-2
     confirm-of-requires
     returns-3
     slice-aggregate-is-4

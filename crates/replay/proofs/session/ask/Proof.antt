@@ -1,7 +1,7 @@
 -- `replay::session::ask` meets its contract. Assumes nothing.
 use Rattle.replay.proofs.SessionLaws.{asked-as, asks}
-use mathlib.Core.Path.{sym}
 use lib.Seq.{length-take-le}
+use mathlib.Core.Path.{sym}
 use borrow.Author.Needs.{needs}
 use Rattle.replay.proofs.session.ask.Statement.{statement}
 use Rattle.replay.proofs.session.ask.Tie as tie
@@ -21,23 +21,32 @@ word-requires-2 c κs = search needs
 lent-requires-2 : tie.Need-lent-requires-2
 lent-requires-2 c κs = search needs
 
+rest-requires : tie.Need-rest-requires
+rest-requires c κs = search needs
+
+power-on-requires : tie.Need-power-on-requires
+power-on-requires c κs = search needs
+
+slice-aggregate-outcome-of : tie.Need-slice-aggregate-outcome-of
+slice-aggregate-outcome-of c = search needs
+
 slice-relend-prefix-outcome-of : tie.Need-slice-relend-prefix-outcome-of
 slice-relend-prefix-outcome-of c = search needs
 
-slice-aggregate-outcome-of : tie.Need-slice-aggregate-outcome-of
-slice-aggregate-outcome-of c = sym (length-take-le _ _ (c .before .before .before .lent .ensures .1))
+slice-aggregate-outcome-of-2 : tie.Need-slice-aggregate-outcome-of-2
+slice-aggregate-outcome-of-2 c = sym (length-take-le _ _ (c .before .before .before .before .before .before .lent .ensures .1))
 
 slice-relend-prefix-outcome-of-2 : tie.Need-slice-relend-prefix-outcome-of-2
 slice-relend-prefix-outcome-of-2 c = search needs
 
-slice-aggregate-outcome-of-2 : tie.Need-slice-aggregate-outcome-of-2
-slice-aggregate-outcome-of-2 c = sym (length-take-le _ _ (c .before .before .lent2 .ensures .1))
+slice-aggregate-outcome-of-3 : tie.Need-slice-aggregate-outcome-of-3
+slice-aggregate-outcome-of-3 c = sym (length-take-le _ _ (c .before .before .before .before .before .lent2 .ensures .1))
 
 outcome-of-requires : tie.Need-outcome-of-requires
 outcome-of-requires c κs = search needs
 
-is-opened-requires : tie.Need-is-opened-requires
-is-opened-requires c κs = search needs
+answered-requires : tie.Need-answered-requires
+answered-requires c κs = search needs
 
 same-length : tie.Need-same-length
 same-length c = search needs
@@ -46,7 +55,7 @@ same-length-2 : tie.Need-same-length-2
 same-length-2 c = search needs
 
 returns : tie.Need-returns
-returns c = asks _ _ _ _ _ _ _ _ _ (asked-as _ _ _ _ _ _ _ _ _ _ _ (c .before .before .before .before .before .before .before .before .before .before .before .before .before .before .is-opening .ensures) (c .before .before .before .before .before .before .before .before .before .before .before .before .word .ensures .is) (c .before .before .before .before .before .before .before .before .before .before .word2 .ensures .is) (c .before .before .before .before .before .before .before .before .before .before .before .lent .ensures .0) (c .before .before .before .before .before .before .before .before .before .lent2 .ensures .0)) _ _ _ _ (c .before .before .before .before .before .before .outcome-of .ensures) (c .before .is-opened .ensures)
+returns c = asks _ _ _ _ _ _ _ _ _ (asked-as _ _ _ _ _ _ _ _ _ _ _ (c .before .before .before .before .before .before .before .before .before .before .before .before .before .before .before .before .is-opening .ensures) (c .before .before .before .before .before .before .before .before .before .before .before .before .before .before .word .ensures .is) (c .before .before .before .before .before .before .before .before .before .before .before .before .word2 .ensures .is) (c .before .before .before .before .before .before .before .before .before .before .before .before .before .lent .ensures .0) (c .before .before .before .before .before .before .before .before .before .before .before .lent2 .ensures .0)) _ _ _ _ (rw (c .before .before .before .before .before .before .before .before .before .power-on .ensures, c .before .before .before .before .before .before .before .before .before .before .rest .ensures) at (c .before .before .before .before .before .outcome-of .ensures)) (c .answered .ensures)
 
 pub ask-spec : {M : Type 1} → statement M
 ask-spec =
@@ -57,12 +66,15 @@ ask-spec =
     lent-requires
     word-requires-2
     lent-requires-2
-    slice-relend-prefix-outcome-of
+    rest-requires
+    power-on-requires
     slice-aggregate-outcome-of
-    slice-relend-prefix-outcome-of-2
+    slice-relend-prefix-outcome-of
     slice-aggregate-outcome-of-2
+    slice-relend-prefix-outcome-of-2
+    slice-aggregate-outcome-of-3
     outcome-of-requires
-    is-opened-requires
+    answered-requires
     same-length
     same-length-2
     returns)

@@ -2,8 +2,6 @@
 use mir.Syntax.{w64}
 use mir.Val.{SFits}
 use mir.Facts.{toZ-ofZ}
-use mathlib.Core.Path.{sym}
-use lib.Seq.{length-take-le}
 use Rattle.replay.specs.Sessions.{requested}
 use borrow.Author.Needs.{needs}
 use Rattle.replay.proofs.session.outcome_of.Statement.{statement}
@@ -12,11 +10,8 @@ use Rattle.replay.proofs.session.outcome_of.Tie as tie
 enum-known-request : tie.Need-enum-known-request
 enum-known-request c = search needs
 
-least-requires : tie.Need-least-requires
-least-requires c κs = search needs
-
-slice-aggregate-open : tie.Need-slice-aggregate-open
-slice-aggregate-open c = sym (length-take-le _ _ (c .before .least .ensures .1))
+front-requires : tie.Need-front-requires
+front-requires c κs = search needs
 
 open-requires : tie.Need-open-requires
 open-requires c κs = search needs
@@ -53,7 +48,7 @@ same-length-2 c = search needs
 
 returns : tie.Need-returns
 unfolding requested
-returns c = rw (c .before .before .before .before .before .before .before .before .before .before .request .given .1) (rw (c .before .before .before .before .before .before .before .before .least .ensures .0) at (c .before .before .before .before .«open» .ensures))
+returns c = rw (c .before .before .before .before .before .before .before .before .before .request .given .1) (rw (c .before .before .before .before .before .before .before .front .ensures) at (c .before .before .before .before .«open» .ensures))
 
 same-length-3 : tie.Need-same-length-3
 same-length-3 c = search needs
@@ -102,8 +97,7 @@ outcome-of-spec =
     tie.close
     (tie.spec
     enum-known-request
-    least-requires
-    slice-aggregate-open
+    front-requires
     open-requires
     enum-known-request-2
     begin-read-requires

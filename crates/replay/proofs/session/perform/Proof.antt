@@ -15,29 +15,14 @@ stay-requires c κs = search needs
 enum-known-call : tie.Need-enum-known-call
 enum-known-call c = search needs
 
-rest-requires : tie.Need-rest-requires
-rest-requires c κs = search needs
-
-power-on-requires : tie.Need-power-on-requires
-power-on-requires c κs = search needs
-
-slice-aggregate-ask : tie.Need-slice-aggregate-ask
-slice-aggregate-ask c = search needs
-
 ask-requires : tie.Need-ask-requires
 ask-requires c κs = search needs
 
 enum-told-2 : tie.Need-enum-told-2
 enum-told-2 c = search needs
 
-rest-requires-2 : tie.Need-rest-requires-2
-rest-requires-2 c κs = search needs
-
-word-requires : tie.Need-word-requires
-word-requires c κs = search needs
-
-lookup-requires : tie.Need-lookup-requires
-lookup-requires c κs = search needs
+look-requires : tie.Need-look-requires
+look-requires c κs = search needs
 
 stay-requires-2 : tie.Need-stay-requires-2
 stay-requires-2 c κs = search needs
@@ -84,11 +69,11 @@ same-length-2 c = search needs
 
 returns-2 : tie.Need-returns-2
 unfolding performed
-returns-2 c = rw (c .before .before .before .before .before .before .before .before .before .before .before .call .given .1) (rw (c .before .before .before .before .before .before .before .before .power-on .ensures, c .before .before .before .before .before .before .before .before .before .rest .ensures) at (c .before .before .before .before .ask .ensures))
+returns-2 c = rw (c .before .before .before .before .before .before .before .before .call .given .1) (c .before .before .before .before .ask .ensures)
 
 returns-3 : tie.Need-returns-3
 unfolding performed
-returns-3 c = rw (c .before .before .before .before .enum-told2 .given .1) (stays _ _ _ _ _ (c .stay2 .ensures ∙ rw (c .before .lookup .ensures, c .before .before .word .ensures, c .before .before .before .rest2 .ensures)))
+returns-3 c = rw (c .before .before .enum-told2 .given .1) (stays _ _ _ _ _ (c .stay2 .ensures ∙ rw (c .before .look .ensures)))
 
 returns-4 : tie.Need-returns-4
 unfolding performed
@@ -117,14 +102,9 @@ perform-spec =
     enum-told
     stay-requires
     enum-known-call
-    rest-requires
-    power-on-requires
-    slice-aggregate-ask
     ask-requires
     enum-told-2
-    rest-requires-2
-    word-requires
-    lookup-requires
+    look-requires
     stay-requires-2
     enum-told-3
     stay-requires-3

@@ -7,22 +7,22 @@ use Rattle.replay.proofs.show.bytes.Statement.{statement}
 use Rattle.replay.proofs.show.bytes.Tie as tie
 
 abbrev Inv-loop : tie.InvT-loop
-Inv-loop held i₀ t3 i = i ≤ i
+Inv-loop list digits i₀ t4 i = i ≤ i
 
 abbrev μ-loop : tie.MeasureT-loop
-μ-loop held i₀ t3 i = length held - i
+μ-loop list digits i₀ t4 i = length list - i
 
 loop-holds : tie.Need-loop-holds Inv-loop μ-loop
 loop-holds c = omega arith
 
-slice-aggregate-hex-after : tie.Need-slice-aggregate-hex-after Inv-loop μ-loop
-slice-aggregate-hex-after c = search needs
+slice-aggregate-byte-after : tie.Need-slice-aggregate-byte-after Inv-loop μ-loop
+slice-aggregate-byte-after c = search needs
 
-shared-slice-read-hex-after : tie.Need-shared-slice-read-hex-after Inv-loop μ-loop
-shared-slice-read-hex-after c = search needs
+shared-slice-read-byte-after : tie.Need-shared-slice-read-byte-after Inv-loop μ-loop
+shared-slice-read-byte-after c = search needs
 
-hex-after-requires : tie.Need-hex-after-requires Inv-loop μ-loop
-hex-after-requires c κs = search needs
+byte-after-requires : tie.Need-byte-after-requires Inv-loop μ-loop
+byte-after-requires c κs = search needs
 
 add-i : tie.Need-add-i Inv-loop μ-loop
 add-i c = search needs
@@ -43,9 +43,9 @@ bytes-spec =
     Inv-loop
     μ-loop
     loop-holds
-    slice-aggregate-hex-after
-    shared-slice-read-hex-after
-    hex-after-requires
+    slice-aggregate-byte-after
+    shared-slice-read-byte-after
+    byte-after-requires
     add-i
     loop-less
     loop-again

@@ -35,11 +35,11 @@ slice-aggregate-say-2 c = search needs
 say-requires-2 : tie.Need-say-requires-2
 say-requires-2 c κs = search needs
 
-slice-aggregate-numbers : tie.Need-slice-aggregate-numbers
-slice-aggregate-numbers c = sym (length-take-le _ _ (c .before .before .before .before .before .before .before .lent2 .ensures .1))
+slice-aggregate-bytes-2 : tie.Need-slice-aggregate-bytes-2
+slice-aggregate-bytes-2 c = sym (length-take-le _ _ (c .before .before .before .before .before .before .before .lent2 .ensures .1))
 
-numbers-requires : tie.Need-numbers-requires
-numbers-requires c κs = search needs
+bytes-requires-2 : tie.Need-bytes-requires-2
+bytes-requires-2 c κs = search needs
 
 operation-requires : tie.Need-operation-requires
 operation-requires c κs = search needs
@@ -67,8 +67,8 @@ state-spec =
     bytes-requires
     slice-aggregate-say-2
     say-requires-2
-    slice-aggregate-numbers
-    numbers-requires
+    slice-aggregate-bytes-2
+    bytes-requires-2
     operation-requires
     slice-aggregate-say-3
     say-requires-3
