@@ -89,13 +89,10 @@ module _ (sound : Tables → Bool) (t : Tables) where
   pub begin-write-refuses : (s : State) (v : ℕ) (z : ℤ) → Refuses (writeTests sound t s v z) s (beginWrite sound t s v z)
   begin-write-refuses s v z = refuses (writeTests sound t s v z) s _ refl
 
-  read-on : (last : Bool) (s : State) (v n g : ℕ) → refusalOf (readOn last t s v n g .answer) ≡ none
-  read-on true s v n g = refl
-  read-on false s v n g = refl
-
-  write-on : (last : Bool) (s : State) (v n x : ℕ) → refusalOf (writeOn last t s v n x .answer) ≡ none
-  write-on true s v n x = refl
-  write-on false s v n x = refl
+  -- an operation that goes on, or is done at the last, is not refused
+  goes-on : (on : Bool → Outcome) → refusalOf (on true .answer) ≡ none → refusalOf (on false .answer) ≡ none → (last : Bool) → refusalOf (on last .answer) ≡ none
+  goes-on on done offered true = done
+  goes-on on done offered false = offered
 
   -- 24 is the last test, and on an idle station the outcome
   confirm-by : (k m : List ℕ) (op : Operation) (byte : ℕ)
@@ -106,11 +103,11 @@ module _ (sound : Tables → Bool) (t : Tables) where
       refuses (endTests sound t s) s (record { answer = Ended; state = s }) refl
   confirm-by k m (Reading v n g) byte =
       let s : State = record { kept = k; marks = m; operation = Reading v n g } in
-      refuses (endTests sound t s) s _ (read-on (isLast t reading v (suc n)) s v (suc n) (gather t v g (registerTaken t reading v n) byte))
+      refuses (endTests sound t s) s _ (goes-on (λ last. readOn last t s v (suc n) (gather t v g (registerTaken t reading v n) byte)) refl refl (isLast t reading v (suc n)))
   confirm-by k m (Writing v n x) byte =
       let s : State = record { kept = k; marks = m; operation = Writing v n x } in
       refuses (endTests sound t s) s _
-      (write-on (isLast t writing v (suc n)) (keeping s (registerTaken t writing v n) (writeAccess t s v n x .byte)) v (suc n) x)
+      (goes-on (λ last. writeOn last t (keeping s (registerTaken t writing v n) (writeAccess t s v n x .byte)) v (suc n) x) refl refl (isLast t writing v (suc n)))
 
   pub confirm-refuses : (s : State) (byte : ℕ) → Refuses (endTests sound t s) s (confirm sound t s byte)
   confirm-refuses s byte = confirm-by (s .kept) (s .marks) (s .operation) byte

@@ -4,23 +4,20 @@ ghost use Prim.Native.Nat.{_≤_, _<_};
 ghost use lib.ListN.{getD};
 ghost use Rattle.wiring.specs.Pieces.{Usable};
 ghost use Rattle.station.specs.Variable.{partOf, widthOf, Byte};
-ghost use Rattle.station.specs.Access.{cellOf, byteToWrite, gatherByte, readAccess, writeAccess};
+ghost use Rattle.station.specs.Access.{cellOf, byteToWrite, gatherByte, accessOf, readAccess, writeAccess};
 use crate::Access;
 use crate::variable::part_of;
 use crate::variable::register_of;
 use crate::variable::width_of;
+use tables::Part;
 use wiring::Cell;
 use wiring::Rule;
 
 // The byte at `i`, and 0 past the end.
-pub fn byte_at(bytes: &[u8], i: usize) -> usize
+pub fn byte_at(bytes: &[u8], i: usize) -> u8
     ensures { λ r. ⌜ r ≡ getD (now (bytes .entry)) i 0 ⌝ }
 {
-    if i < bytes.len() {
-        bytes[i] as usize
-    } else {
-        0
-    }
+    if i < bytes.len() { bytes[i] } else { 0 }
 }
 
 fn cell_of(registers: &[u32], held: &[u8], r: usize) -> Cell
@@ -29,7 +26,7 @@ fn cell_of(registers: &[u32], held: &[u8], r: usize) -> Cell
 {
     let dots = tables::words::word(registers, 15 * r + 4 + 6 * 1 + 3);
     let ones = tables::words::word(registers, 15 * r + 4 + 6 * 1 + 5);
-    let byte = byte_at(held, r);
+    let byte = byte_at(held, r) as usize;
     Cell {
         register: r,
         dots,
@@ -75,18 +72,26 @@ pub fn gather_byte(variables: &[u32], v: usize, n: usize, so_far: usize, byte: u
     )
 }
 
+// An access of register `r`: by its part, whose side this is, with its byte.
+fn access_of(registers: &[u32], part: Part, side: usize, r: usize, byte: u8) -> Access
+    requires { ⌜ (r < 64) × (side < 2) ⌝ }
+    ensures { λ a. ⌜ a ≡ accessOf (now (registers .entry)) part side r byte ⌝ }
+{
+    let parameter = tables::words::word(registers, 15 * r + 4 + 6 * side + 1);
+    let offset = tables::words::word(registers, 15 * r + 4 + 6 * side + 2);
+    Access {
+        direction: part,
+        parameter,
+        offset,
+        byte,
+    }
+}
+
 pub fn read_access(registers: &[u32], r: usize) -> Access
     requires { ⌜ r < 64 ⌝ }
     ensures { λ a. ⌜ a ≡ readAccess (now (registers .entry)) r ⌝ }
 {
-    let parameter = tables::words::word(registers, 15 * r + 4 + 6 * 0 + 1);
-    let offset = tables::words::word(registers, 15 * r + 4 + 6 * 0 + 2);
-    Access {
-        direction: tables::Part::Read,
-        parameter,
-        offset,
-        byte: 0,
-    }
+    access_of(registers, Part::Read, 0, r, 0)
 }
 
 pub fn write_access(
@@ -102,13 +107,6 @@ pub fn write_access(
     requires { ⌜ Byte (now registers) r ⌝ }
     ensures { λ a. ⌜ a ≡ writeAccess (now (registers .entry)) (now (variables .entry)) (now (held .entry)) v value r ⌝ }
 {
-    let parameter = tables::words::word(registers, 15 * r + 4 + 6 * 1 + 1);
-    let offset = tables::words::word(registers, 15 * r + 4 + 6 * 1 + 2);
     let byte = byte_to_write(registers, variables, held, v, value, r);
-    Access {
-        direction: tables::Part::Write,
-        parameter,
-        offset,
-        byte,
-    }
+    access_of(registers, Part::Write, 1, r, byte)
 }

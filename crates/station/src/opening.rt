@@ -3,38 +3,30 @@ ghost use mathlib.Core.Path.{_≡_};
 ghost use Prim.Native.Nat.{_≤_};
 ghost use lib.ListN.{length};
 ghost use Rattle.station.specs.Standing.{tablesOf};
-ghost use Rattle.station.specs.Station.{copied, cleared, openFault};
+ghost use Rattle.station.specs.Station.{copied, openFault};
 ghost use Rattle.tables.specs.View.{sound};
 ghost use Rattle.station.specs.Calls.{opening};
 ghost use Rattle.station.specs.Promise.{lent, Meets};
 use crate::Answer;
 use crate::Operation;
 use crate::Outcome;
+use crate::accesses::byte_at;
 use crate::outcomes::refuse;
+use crate::standing::fault;
 
+// The first `n` bytes of `target` become those of `source`, and 0 where it has none.
 fn copy_bytes(source: &[u8], target: &mut [u8], n: usize)
-    requires { ⌜ (n ≤ length (now source)) × (n ≤ length (now target)) ⌝ }
+    requires { ⌜ n ≤ length (now target) ⌝ }
     ensures { λ _. ⌜ now (target .exit) ≡ copied (now (source .entry)) (now (target .entry)) n ⌝ }
 {
     let mut i: usize = 0;
     while i < n {
-        target[i] = source[i];
+        target[i] = byte_at(source, i);
         i += 1;
     }
 }
 
-fn clear_bytes(target: &mut [u8], n: usize)
-    requires { ⌜ n ≤ length (now target) ⌝ }
-    ensures { λ _. ⌜ now (target .exit) ≡ cleared (now (target .entry)) n ⌝ }
-{
-    let mut i: usize = 0;
-    while i < n {
-        target[i] = 0;
-        i += 1;
-    }
-}
-
-// The number of the first refusal of an opening, and 0 where there is none.
+// The number of the first refusal of an opening, and 0 where there is none. What is in hand does not count, since an opening ends it.
 fn open_fault(
     parameters: &[u32],
     registers: &[u32],
@@ -45,16 +37,18 @@ fn open_fault(
 ) -> usize
     ensures { λ r. ⌜ r ≡ openFault (tablesOf (now (parameters .entry)) (now (registers .entry)) (now (variables .entry))) power held marks ⌝ }
 {
-    if !tables::whole::sound(parameters, registers, variables) {
-        return 20;
+    let number = fault(
+        parameters,
+        registers,
+        variables,
+        held,
+        marks,
+        Operation::Idle,
+    );
+    if number != 0 {
+        return number;
     }
     if power < tables::words::word(registers, 0) {
-        return 21;
-    }
-    if held < tables::words::word(registers, 0) {
-        return 21;
-    }
-    if marks < tables::words::word(variables, 0) {
         return 21;
     }
     0
@@ -89,7 +83,7 @@ pub fn open(
         return refuse(operation, number);
     }
     copy_bytes(power, held, tables::words::word(registers, 0));
-    clear_bytes(marks, tables::words::word(variables, 0));
+    copy_bytes(&power[..0], marks, tables::words::word(variables, 0));
     Outcome {
         operation: Operation::Idle,
         answer: Answer::Opened,

@@ -1,5 +1,5 @@
 -- `station::abandoning::abandon` meets its contract.
-use mathlib.Core.Path.{_∙_, ap}
+use mathlib.Core.Path.{ap}
 use native.Mathlib.Nat.{lt-of-lt-of-le}
 use denote.Ref.{now}
 use borrow.Author.Needs.{needs}
@@ -7,8 +7,8 @@ use Rattle.tables.specs.View.{Tables}
 use Rattle.station.specs.Standing.{tablesOf}
 use Rattle.station.specs.Station.{State, stateOf, abandonedBy}
 use Rattle.station.proofs.Laws.{no-fault}
-use Rattle.station.proofs.CallLaws.{leaves-as, leaves-refused, guard-refuses, guard-passes, writing, abandon-idle, abandon-read, abandon-write}
-use Rattle.station.proofs.Meeting.{meets}
+use Rattle.station.proofs.CallLaws.{leaves, writing}
+use Rattle.station.proofs.Meeting.{meets-refused, meets-passed}
 use Rattle.station.proofs.Bridge.{abandon-is}
 use Rattle.station.proofs.abandoning.abandon.Statement.{statement}
 use Rattle.station.proofs.abandoning.abandon.Tie as tie
@@ -26,8 +26,7 @@ refuse-requires : tie.Need-refuse-requires
 refuse-requires c κs = search needs
 
 returns : tie.Need-returns
-returns c = meets (abandon-is (tables-at (c .before .before .before .before .before .before .before .before)) (state-at (c .before .before .before .before .before .before .before .before))) (
-    leaves-as (guard-refuses _ _ (state-at (c .before .before .before .before .before .before .before .before)) (c .before .before .fault .ensures) _ (c .before .if1 .taken)) (leaves-refused (state-at (c .before .before .before .before .before .before .before .before)) _ (c .refuse .ensures)))
+returns c = meets-refused (state-at (c .before .before .before .before .before .before .before .before)) _ (abandon-is (tables-at (c .before .before .before .before .before .before .before .before)) (state-at (c .before .before .before .before .before .before .before .before))) (c .before .before .fault .ensures) (c .before .if1 .taken) (c .refuse .ensures)
 
 enum-told : tie.Need-enum-told
 enum-told c = search needs
@@ -53,22 +52,19 @@ stop-requires-2 : tie.Need-stop-requires-2
 stop-requires-2 c κs = search needs
 
 returns-2 : tie.Need-returns-2
-returns-2 c = meets (abandon-is (tables-at (c .before .before .before .before .before .before .before .before .before .before)) (state-at (c .before .before .before .before .before .before .before .before .before .before))) (
-    let s = state-at (c .before .before .before .before .before .before .before .before .before .before) in
-    leaves-as (guard-passes _ _ s (c .before .before .before .before .fault .ensures) _ (c .before .before .before .if1 .left) ∙ ap (abandonedBy s) (c .before .enum-told .given .1) ∙ abandon-idle s) (leaves-refused s 24 (c .refuse2 .ensures)))
+unfolding abandonedBy
+returns-2 c = meets-passed (state-at (c .before .before .before .before .before .before .before .before .before .before)) _ (abandon-is (tables-at (c .before .before .before .before .before .before .before .before .before .before)) (state-at (c .before .before .before .before .before .before .before .before .before .before))) (c .before .before .before .before .fault .ensures) (c .before .before .before .if1 .left) (ap (abandonedBy (state-at (c .before .before .before .before .before .before .before .before .before .before))) (c .before .enum-told .given .1)) (leaves _ _ (c .refuse2 .ensures))
 
 returns-3 : tie.Need-returns-3
-returns-3 c = meets (abandon-is (tables-at (c .before .before .before .before .before .before .before .before .before .before)) (state-at (c .before .before .before .before .before .before .before .before .before .before))) (
-    let s = state-at (c .before .before .before .before .before .before .before .before .before .before) in
-    leaves-as (guard-passes _ _ s (c .before .before .before .before .fault .ensures) _ (c .before .before .before .if1 .left) ∙ ap (abandonedBy s) (c .before .enum-told2 .given .1)) (abandon-read s _ _ _ (c .stop .ensures)))
+unfolding abandonedBy
+returns-3 c = meets-passed (state-at (c .before .before .before .before .before .before .before .before .before .before)) _ (abandon-is (tables-at (c .before .before .before .before .before .before .before .before .before .before)) (state-at (c .before .before .before .before .before .before .before .before .before .before))) (c .before .before .before .before .fault .ensures) (c .before .before .before .if1 .left) (ap (abandonedBy (state-at (c .before .before .before .before .before .before .before .before .before .before))) (c .before .enum-told2 .given .1)) (leaves _ _ (c .stop .ensures))
 
 same-length : tie.Need-same-length
 same-length c = search needs
 
 returns-4 : tie.Need-returns-4
-returns-4 c = meets (abandon-is (tables-at (c .before .before .before .before .before .before .before .before .before .before .before)) (state-at (c .before .before .before .before .before .before .before .before .before .before .before))) (
-    let s = state-at (c .before .before .before .before .before .before .before .before .before .before .before) in
-    leaves-as (guard-passes _ _ s (c .before .before .before .before .before .fault .ensures) _ (c .before .before .before .before .if1 .left) ∙ ap (abandonedBy s) (c .before .before .operation .given .1)) (abandon-write s _ _ _ (c .stop2 .ensures)))
+unfolding abandonedBy
+returns-4 c = meets-passed (state-at (c .before .before .before .before .before .before .before .before .before .before .before)) _ (abandon-is (tables-at (c .before .before .before .before .before .before .before .before .before .before .before)) (state-at (c .before .before .before .before .before .before .before .before .before .before .before))) (c .before .before .before .before .before .fault .ensures) (c .before .before .before .before .if1 .left) (ap (abandonedBy (state-at (c .before .before .before .before .before .before .before .before .before .before .before))) (c .before .before .operation .given .1)) (leaves _ _ (c .stop2 .ensures))
 
 pub abandon-spec : {M : Type 1} → statement M
 abandon-spec =

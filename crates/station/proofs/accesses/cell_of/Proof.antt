@@ -43,6 +43,9 @@ word-requires-2 c κs = search needs
 byte-at-requires : tie.Need-byte-at-requires
 byte-at-requires c κs = search needs
 
+cast-byte : tie.Need-cast-byte
+cast-byte c = search needs
+
 returns : tie.Need-returns
 returns c = simp (sym (c .before .before .word .ensures .is), sym (c .before .word2 .ensures .is), sym (c .byte-at .ensures))
 
@@ -63,4 +66,5 @@ cell-of-spec =
     add-word-6
     word-requires-2
     byte-at-requires
+    cast-byte
     returns)

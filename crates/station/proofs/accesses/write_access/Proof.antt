@@ -1,66 +1,22 @@
 -- `station::accesses::write_access` meets its contract.
-use mathlib.Core.Path.{sym}
+use mathlib.Core.Path.{_∙_, ap}
+use denote.Ref.{now}
 use borrow.Author.Needs.{needs}
+use Rattle.tables.specs.declared.Part.the-variants.{Write}
+use Rattle.station.specs.Access.{accessOf}
 use Rattle.station.proofs.accesses.write_access.Statement.{statement}
 use Rattle.station.proofs.accesses.write_access.Tie as tie
-
-mul-word : tie.Need-mul-word
-mul-word c = search needs
-
-add-word : tie.Need-add-word
-add-word c = search needs
-
-mul-word-2 : tie.Need-mul-word-2
-mul-word-2 c = search needs
-
-add-word-2 : tie.Need-add-word-2
-add-word-2 c = search needs
-
-add-word-3 : tie.Need-add-word-3
-add-word-3 c = search needs
-
-word-requires : tie.Need-word-requires
-word-requires c κs = search needs
-
-mul-word-3 : tie.Need-mul-word-3
-mul-word-3 c = search needs
-
-add-word-4 : tie.Need-add-word-4
-add-word-4 c = search needs
-
-mul-word-4 : tie.Need-mul-word-4
-mul-word-4 c = search needs
-
-add-word-5 : tie.Need-add-word-5
-add-word-5 c = search needs
-
-add-word-6 : tie.Need-add-word-6
-add-word-6 c = search needs
-
-word-requires-2 : tie.Need-word-requires-2
-word-requires-2 c κs = search needs
 
 byte-to-write-requires : tie.Need-byte-to-write-requires
 byte-to-write-requires c κs = search needs
 
+access-of-requires : tie.Need-access-of-requires
+access-of-requires c κs = search needs
+
 returns : tie.Need-returns
-returns c = simp (sym (c .before .before .word .ensures .is), sym (c .before .word2 .ensures .is), sym (c .byte-to-write .ensures))
+returns c =
+    let a = c .before .before .before .before .before .args in
+    c .access-of .ensures ∙ ap (accessOf (now (a .registers)) Write 1 (a .r)) (c .before .byte-to-write .ensures)
 
 pub write-access-spec : {M : Type 1} → statement M
-write-access-spec =
-    tie.close
-    (tie.spec
-    mul-word
-    add-word
-    mul-word-2
-    add-word-2
-    add-word-3
-    word-requires
-    mul-word-3
-    add-word-4
-    mul-word-4
-    add-word-5
-    add-word-6
-    word-requires-2
-    byte-to-write-requires
-    returns)
+write-access-spec = tie.close (tie.spec byte-to-write-requires access-of-requires returns)

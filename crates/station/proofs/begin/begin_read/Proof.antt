@@ -1,13 +1,13 @@
 -- `station::begin::begin_read` meets its contract.
-use mathlib.Core.Path.{_∙_, sym}
+use mathlib.Core.Path.{_∙_, sym, ap}
 use native.Mathlib.Omega.{arith}
 use denote.Ref.{now}
 use borrow.Author.Needs.{needs}
 use Rattle.tables.specs.View.{Tables}
 use Rattle.station.specs.Standing.{tablesOf}
-use Rattle.station.specs.Station.{State, stateOf}
-use Rattle.station.proofs.CallLaws.{outcome-refused, outcome-passes, begins, read-marked, read-starts}
-use Rattle.station.proofs.Meeting.{meets-outcome}
+use Rattle.station.specs.Station.{State, stateOf, leave}
+use Rattle.station.proofs.CallLaws.{leaves, begins, read-marked, read-starts}
+use Rattle.station.proofs.Meeting.{meets-refused, meets-passed}
 use Rattle.station.proofs.Bridge.{begin-read-is}
 use Rattle.station.proofs.begin.begin_read.Statement.{statement}
 use Rattle.station.proofs.begin.begin_read.Tie as tie
@@ -25,8 +25,7 @@ refuse-requires : tie.Need-refuse-requires
 refuse-requires c κs = search needs
 
 returns : tie.Need-returns
-returns c = meets-outcome (state-at (c .before .before .before .before .before .before .before .before)) (begin-read-is (tables-at (c .before .before .before .before .before .before .before .before)) (state-at (c .before .before .before .before .before .before .before .before)) (c .before .before .before .before .before .before .before .before .args .v)) (
-    c .refuse .ensures ∙ sym (outcome-refused _ _ (state-at (c .before .before .before .before .before .before .before .before)) (c .before .before .begin-fault .ensures) _ (c .before .if1 .taken)))
+returns c = meets-refused (state-at (c .before .before .before .before .before .before .before .before)) _ (begin-read-is (tables-at (c .before .before .before .before .before .before .before .before)) (state-at (c .before .before .before .before .before .before .before .before)) (c .before .before .before .before .before .before .before .before .args .v)) (c .before .before .begin-fault .ensures) (c .before .if1 .taken) (c .refuse .ensures)
 
 byte-at-requires : tie.Need-byte-at-requires
 byte-at-requires c κs = search needs
@@ -35,9 +34,9 @@ refuse-requires-2 : tie.Need-refuse-requires-2
 refuse-requires-2 c κs = search needs
 
 returns-2 : tie.Need-returns-2
-returns-2 c = meets-outcome (state-at (c .before .before .before .before .before .before .before .before .before .before)) (begin-read-is (tables-at (c .before .before .before .before .before .before .before .before .before .before)) (state-at (c .before .before .before .before .before .before .before .before .before .before)) (c .before .before .before .before .before .before .before .before .before .before .args .v)) (
+returns-2 c =
     let s = state-at (c .before .before .before .before .before .before .before .before .before .before) in
-    c .refuse2 .ensures ∙ sym (outcome-passes _ _ s (c .before .before .before .before .begin-fault .ensures) _ (c .before .before .before .if1 .left) ∙ read-marked (tables-at (c .before .before .before .before .before .before .before .before .before .before)) s _ (λ q. c .before .if2 .taken (c .before .before .byte-at .ensures ∙ q))))
+    meets-passed s _ (begin-read-is (tables-at (c .before .before .before .before .before .before .before .before .before .before)) (state-at (c .before .before .before .before .before .before .before .before .before .before)) (c .before .before .before .before .before .before .before .before .before .before .args .v)) (c .before .before .before .before .begin-fault .ensures) (c .before .before .before .if1 .left) (ap (leave s) (read-marked (tables-at (c .before .before .before .before .before .before .before .before .before .before)) s _ (λ q. c .before .if2 .taken (c .before .before .byte-at .ensures ∙ q)))) (leaves _ _ (c .refuse2 .ensures))
 
 offer-read-requires : tie.Need-offer-read-requires
 offer-read-requires c κs =
@@ -45,9 +44,9 @@ offer-read-requires c κs =
     (begun .ready, begun .some)
 
 returns-3 : tie.Need-returns-3
-returns-3 c = meets-outcome (state-at (c .before .before .before .before .before .before .before .before .before .before)) (begin-read-is (tables-at (c .before .before .before .before .before .before .before .before .before .before)) (state-at (c .before .before .before .before .before .before .before .before .before .before)) (c .before .before .before .before .before .before .before .before .before .before .args .v)) (
+returns-3 c =
     let s = state-at (c .before .before .before .before .before .before .before .before .before .before) in
-    c .offer-read .ensures ∙ sym (outcome-passes _ _ s (c .before .before .before .before .begin-fault .ensures) _ (c .before .before .before .if1 .left) ∙ read-starts (tables-at (c .before .before .before .before .before .before .before .before .before .before)) s _ (sym (c .before .before .byte-at .ensures) ∙ c .before .if2 .left)))
+    meets-passed s _ (begin-read-is (tables-at (c .before .before .before .before .before .before .before .before .before .before)) (state-at (c .before .before .before .before .before .before .before .before .before .before)) (c .before .before .before .before .before .before .before .before .before .before .args .v)) (c .before .before .before .before .begin-fault .ensures) (c .before .before .before .if1 .left) (ap (leave s) (read-starts (tables-at (c .before .before .before .before .before .before .before .before .before .before)) s _ (sym (c .before .before .byte-at .ensures) ∙ c .before .if2 .left))) (leaves _ _ (c .offer-read .ensures))
 
 pub begin-read-spec : {M : Type 1} → statement M
 begin-read-spec =

@@ -1,14 +1,15 @@
 -- `station::begin::begin_write` meets its contract.
-use mathlib.Core.Path.{_∙_, sym, ap}
+use mathlib.Core.Path.{_∙_, ap}
 use native.Mathlib.Omega.{arith}
 use mir.Facts.{toZ-ofZ}
 use denote.Ref.{now}
 use borrow.Author.Needs.{needs}
 use Rattle.tables.specs.View.{Tables}
+use Rattle.bits.specs.declared.values.Encoded.{Encoded}
 use Rattle.station.specs.Standing.{tablesOf}
-use Rattle.station.specs.Station.{State, stateOf, startedWrite}
-use Rattle.station.proofs.CallLaws.{encoded-as, outcome-refused, outcome-passes, begins, write-starts, write-outside}
-use Rattle.station.proofs.Meeting.{meets-outcome}
+use Rattle.station.specs.Station.{State, stateOf, leave, startedWrite}
+use Rattle.station.proofs.CallLaws.{leaves, encoded-as, begins}
+use Rattle.station.proofs.Meeting.{meets-refused, meets-passed}
 use Rattle.station.proofs.Bridge.{begin-write-is}
 use Rattle.station.proofs.begin.begin_write.Statement.{statement}
 use Rattle.station.proofs.begin.begin_write.Tie as tie
@@ -26,8 +27,7 @@ refuse-requires : tie.Need-refuse-requires
 refuse-requires c κs = search needs
 
 returns : tie.Need-returns
-returns c = meets-outcome (state-at (c .before .before .before .before .before .before .before .before)) (begin-write-is (tables-at (c .before .before .before .before .before .before .before .before)) (state-at (c .before .before .before .before .before .before .before .before)) (c .before .before .before .before .before .before .before .before .args .v) _) (
-    c .refuse .ensures ∙ sym (outcome-refused _ _ (state-at (c .before .before .before .before .before .before .before .before)) (c .before .before .begin-fault .ensures) _ (c .before .if1 .taken)))
+returns c = meets-refused (state-at (c .before .before .before .before .before .before .before .before)) _ (begin-write-is (tables-at (c .before .before .before .before .before .before .before .before)) (state-at (c .before .before .before .before .before .before .before .before)) (c .before .before .before .before .before .before .before .before .args .v) _) (c .before .before .begin-fault .ensures) (c .before .if1 .taken) (c .refuse .ensures)
 
 kind-of-requires : tie.Need-kind-of-requires
 kind-of-requires c κs = begins (tables-at (c .before .before .before .before .before .before .before)) _ _ _ _ 1 _ (omega arith) (c .before .begin-fault .ensures) (c .if1 .left) .ready .few
@@ -53,18 +53,20 @@ refuse-requires-2 : tie.Need-refuse-requires-2
 refuse-requires-2 c κs = search needs
 
 returns-2 : tie.Need-returns-2
-returns-2 c = meets-outcome (state-at (c .before .before .before .before .before .before .before .before .before .before .before .before .before .before)) (begin-write-is (tables-at (c .before .before .before .before .before .before .before .before .before .before .before .before .before .before)) (state-at (c .before .before .before .before .before .before .before .before .before .before .before .before .before .before)) (c .before .before .before .before .before .before .before .before .before .before .before .before .before .before .args .v) _) (
+unfolding startedWrite
+returns-2 c =
     let t = tables-at (c .before .before .before .before .before .before .before .before .before .before .before .before .before .before) in
     let s = state-at (c .before .before .before .before .before .before .before .before .before .before .before .before .before .before) in
     let pattern = encoded-as (c .before .before .before .before .encode .ensures) (c .before .before .before .before .before .before .kind-of .ensures) (c .before .before .before .before .before .width-of .ensures) (toZ-ofZ (c .before .before .before .before .before .before .before .before .before .before .before .before .before .before .fits .value)) ∙ c .before .before .encoded .given .1 in
-    c .offer-write .ensures ∙ sym (outcome-passes _ _ s (c .before .before .before .before .before .before .before .before .begin-fault .ensures) _ (c .before .before .before .before .before .before .before .if1 .left) ∙ ap (startedWrite t s _) pattern ∙ write-starts t s _ _))
+    meets-passed s _ (begin-write-is (tables-at (c .before .before .before .before .before .before .before .before .before .before .before .before .before .before)) (state-at (c .before .before .before .before .before .before .before .before .before .before .before .before .before .before)) (c .before .before .before .before .before .before .before .before .before .before .before .before .before .before .args .v) _) (c .before .before .before .before .before .before .before .before .begin-fault .ensures) (c .before .before .before .before .before .before .before .if1 .left) (ap (λ (e : Encoded). leave s (startedWrite t s (c .before .before .before .before .before .before .before .before .before .before .before .before .before .before .args .v) e)) pattern) (leaves _ _ (c .offer-write .ensures))
 
 returns-3 : tie.Need-returns-3
-returns-3 c = meets-outcome (state-at (c .before .before .before .before .before .before .before .before .before .before .before .before .before)) (begin-write-is (tables-at (c .before .before .before .before .before .before .before .before .before .before .before .before .before)) (state-at (c .before .before .before .before .before .before .before .before .before .before .before .before .before)) (c .before .before .before .before .before .before .before .before .before .before .before .before .before .args .v) _) (
+unfolding startedWrite
+returns-3 c =
     let t = tables-at (c .before .before .before .before .before .before .before .before .before .before .before .before .before) in
     let s = state-at (c .before .before .before .before .before .before .before .before .before .before .before .before .before) in
     let outside = encoded-as (c .before .before .before .encode .ensures) (c .before .before .before .before .before .kind-of .ensures) (c .before .before .before .before .width-of .ensures) (toZ-ofZ (c .before .before .before .before .before .before .before .before .before .before .before .before .before .fits .value)) ∙ c .before .enum-told .given .1 in
-    c .refuse2 .ensures ∙ sym (outcome-passes _ _ s (c .before .before .before .before .before .before .before .begin-fault .ensures) _ (c .before .before .before .before .before .before .if1 .left) ∙ ap (startedWrite t s _) outside ∙ write-outside t s _))
+    meets-passed s _ (begin-write-is (tables-at (c .before .before .before .before .before .before .before .before .before .before .before .before .before)) (state-at (c .before .before .before .before .before .before .before .before .before .before .before .before .before)) (c .before .before .before .before .before .before .before .before .before .before .before .before .before .args .v) _) (c .before .before .before .before .before .before .before .begin-fault .ensures) (c .before .before .before .before .before .before .if1 .left) (ap (λ (e : Encoded). leave s (startedWrite t s (c .before .before .before .before .before .before .before .before .before .before .before .before .before .args .v) e)) outside) (leaves _ _ (c .refuse2 .ensures))
 
 pub begin-write-spec : {M : Type 1} → statement M
 begin-write-spec =

@@ -1,5 +1,5 @@
 -- `station::confirmation::confirm` meets its contract: once `fault` has found nothing, each arm has what its functions ask from `Clear` and `Underway`; its answer is a law of `confirmedBy`.
-use mathlib.Core.Path.{_∙_, ap}
+use mathlib.Core.Path.{ap}
 use native.Mathlib.Nat.{lt-of-lt-of-le}
 use denote.Ref.{now}
 use lib.ListN.{length}
@@ -7,9 +7,9 @@ use borrow.Author.Needs.{needs}
 use Rattle.station.specs.Station.{confirmedBy, State, stateOf}
 use Rattle.tables.specs.View.{Tables}
 use Rattle.station.specs.Standing.{tablesOf}
-use Rattle.station.proofs.CallLaws.{guard-refuses, guard-passes, Underway, leaves-as, leaves-refused, reading, writing, writing-fits, confirm-idle, confirm-read, confirm-write}
+use Rattle.station.proofs.CallLaws.{Underway, leaves, reading, writing, writing-fits}
 use Rattle.station.proofs.Laws.{Clear, no-fault}
-use Rattle.station.proofs.Meeting.{meets}
+use Rattle.station.proofs.Meeting.{meets-refused, meets-passed}
 use Rattle.station.proofs.Bridge.{confirm-is}
 use Rattle.station.proofs.confirmation.confirm.Statement.{statement}
 use Rattle.station.proofs.confirmation.confirm.Tie as tie
@@ -42,8 +42,7 @@ refuse-requires : tie.Need-refuse-requires
 refuse-requires c κs = search needs
 
 returns : tie.Need-returns
-returns c = meets (confirm-is (tables-at (c .before .before .before .before .before .before .before .before)) (state-at (c .before .before .before .before .before .before .before .before)) (c .before .before .before .before .before .before .before .before .args .byte)) (
-    leaves-as (guard-refuses _ _ (state-at (c .before .before .before .before .before .before .before .before)) (c .before .before .fault .ensures) _ (c .before .if1 .taken)) (leaves-refused (state-at (c .before .before .before .before .before .before .before .before)) _ (c .refuse .ensures)))
+returns c = meets-refused (state-at (c .before .before .before .before .before .before .before .before)) _ (confirm-is (tables-at (c .before .before .before .before .before .before .before .before)) (state-at (c .before .before .before .before .before .before .before .before)) (c .before .before .before .before .before .before .before .before .args .byte)) (c .before .before .fault .ensures) (c .before .if1 .taken) (c .refuse .ensures)
 
 enum-told : tie.Need-enum-told
 enum-told c = search needs
@@ -69,18 +68,12 @@ confirm-write-requires c κs =
     (on .ready, (on .step-due, (found .held-long, (lt-of-lt-of-le (on .inside) (found .marks-long), writing-fits _ _ _ _ found _ _ _ (c .before .before .before .operation2 .given .1)))))
 
 returns-2 : tie.Need-returns-2
-returns-2 c = meets (confirm-is (tables-at (c .before .before .before .before .before .before .before .before .before .before)) (state-at (c .before .before .before .before .before .before .before .before .before .before)) (c .before .before .before .before .before .before .before .before .before .before .args .byte)) (
-    let t = tables-at (c .before .before .before .before .before .before .before .before .before .before) in
-    let s = state-at (c .before .before .before .before .before .before .before .before .before .before) in
-    leaves-as (guard-passes _ _ s (c .before .before .before .before .fault .ensures) _ (c .before .before .before .if1 .left) ∙ ap (confirmedBy t s _) (c .before .enum-told .given .1) ∙ confirm-idle t s _) (leaves-refused s 24 (c .refuse2 .ensures)))
+unfolding confirmedBy
+returns-2 c = meets-passed (state-at (c .before .before .before .before .before .before .before .before .before .before)) _ (confirm-is (tables-at (c .before .before .before .before .before .before .before .before .before .before)) (state-at (c .before .before .before .before .before .before .before .before .before .before)) (c .before .before .before .before .before .before .before .before .before .before .args .byte)) (c .before .before .before .before .fault .ensures) (c .before .before .before .if1 .left) (ap (confirmedBy (tables-at (c .before .before .before .before .before .before .before .before .before .before)) (state-at (c .before .before .before .before .before .before .before .before .before .before)) _) (c .before .enum-told .given .1)) (leaves _ _ (c .refuse2 .ensures))
 
 returns-3 : tie.Need-returns-3
-returns-3 c =
-    let t = tables-at (c .before .before .before .before .before .before .before .before .before .before .before) in
-    let s = state-at (c .before .before .before .before .before .before .before .before .before .before .before) in
-    meets (confirm-is t s (c .before .before .before .before .before .before .before .before .before .before .before .args .byte)) (
-    leaves-as (guard-passes _ _ s (c .before .before .before .before .before .fault .ensures) _ (c .before .before .before .before .if1 .left) ∙ ap (confirmedBy t s _) (c .before .before .operation .given .1))
-    (confirm-read t s _ _ _ _ (c .confirm-read .ensures)))
+unfolding confirmedBy
+returns-3 c = meets-passed (state-at (c .before .before .before .before .before .before .before .before .before .before .before)) _ (confirm-is (tables-at (c .before .before .before .before .before .before .before .before .before .before .before)) (state-at (c .before .before .before .before .before .before .before .before .before .before .before)) (c .before .before .before .before .before .before .before .before .before .before .before .args .byte)) (c .before .before .before .before .before .fault .ensures) (c .before .before .before .before .if1 .left) (ap (confirmedBy (tables-at (c .before .before .before .before .before .before .before .before .before .before .before)) (state-at (c .before .before .before .before .before .before .before .before .before .before .before)) _) (c .before .before .operation .given .1)) (leaves _ _ (c .confirm-read .ensures))
 
 same-length : tie.Need-same-length
 same-length c = search needs
@@ -89,12 +82,8 @@ same-length-2 : tie.Need-same-length-2
 same-length-2 c = search needs
 
 returns-4 : tie.Need-returns-4
-returns-4 c =
-    let t = tables-at (c .before .before .before .before .before .before .before .before .before .before .before .before .before .before .before .before .before) in
-    let s = state-at (c .before .before .before .before .before .before .before .before .before .before .before .before .before .before .before .before .before) in
-    meets (confirm-is t s (c .before .before .before .before .before .before .before .before .before .before .before .before .before .before .before .before .before .args .byte)) (
-    leaves-as (guard-passes _ _ s (c .before .before .before .before .before .before .before .before .before .before .before .fault .ensures) _ (c .before .before .before .before .before .before .before .before .before .before .if1 .left) ∙ ap (confirmedBy t s _) (c .before .before .before .before .before .before .before .before .operation2 .given .1) ∙ confirm-write t s _ _ _ _)
-    (c .before .before .before .before .confirm-write .ensures))
+unfolding confirmedBy
+returns-4 c = meets-passed (state-at (c .before .before .before .before .before .before .before .before .before .before .before .before .before .before .before .before .before)) _ (confirm-is (tables-at (c .before .before .before .before .before .before .before .before .before .before .before .before .before .before .before .before .before)) (state-at (c .before .before .before .before .before .before .before .before .before .before .before .before .before .before .before .before .before)) (c .before .before .before .before .before .before .before .before .before .before .before .before .before .before .before .before .before .args .byte)) (c .before .before .before .before .before .before .before .before .before .before .before .fault .ensures) (c .before .before .before .before .before .before .before .before .before .before .if1 .left) (ap (confirmedBy (tables-at (c .before .before .before .before .before .before .before .before .before .before .before .before .before .before .before .before .before)) (state-at (c .before .before .before .before .before .before .before .before .before .before .before .before .before .before .before .before .before)) _) (c .before .before .before .before .before .before .before .before .operation2 .given .1)) (c .before .before .before .before .confirm-write .ensures)
 
 pub confirm-spec : {M : Type 1} → statement M
 confirm-spec =

@@ -1,8 +1,7 @@
 -- `station::confirmation::next_write` meets its contract.
-use mathlib.Core.Path.{refl}
 use native.Mathlib.Omega.{arith}
 use borrow.Author.Needs.{needs}
-use Rattle.station.proofs.CallLaws.{leaves-as, some-left, none-left, write-offers, write-ends}
+use Rattle.station.proofs.CallLaws.{leaves-as, leaves, some-left, none-left, write-offers, write-ends}
 use Rattle.station.proofs.confirmation.next_write.Statement.{statement}
 use Rattle.station.proofs.confirmation.next_write.Tie as tie
 
@@ -16,7 +15,7 @@ offer-write-requires : tie.Need-offer-write-requires
 offer-write-requires c κs = (c .before .before .before .before .before .before .pre .0, some-left _ _ (rw (c .before .access-count .ensures) at (c .if1 .taken)))
 
 returns : tie.Need-returns
-returns c = leaves-as (write-offers _ _ _ _ _ _ _ (some-left _ _ (rw (c .before .before .access-count .ensures) at (c .before .if1 .taken)))) (record { outcome-is = c .offer-write .ensures; held-is = refl; marks-is = refl })
+returns c = leaves-as (write-offers _ _ _ _ _ _ _ (some-left _ _ (rw (c .before .before .access-count .ensures) at (c .before .if1 .taken)))) (leaves _ _ (c .offer-write .ensures))
 
 slice-write-marks : tie.Need-slice-write-marks
 slice-write-marks c = search needs
@@ -30,7 +29,7 @@ same-length : tie.Need-same-length
 same-length c = search needs
 
 returns-2 : tie.Need-returns-2
-returns-2 c = leaves-as (write-ends _ _ _ _ _ _ _ (none-left _ _ (rw (c .before .before .access-count .ensures) at (c .before .if1 .left)))) (record { outcome-is = c .finish .ensures; held-is = refl; marks-is = refl })
+returns-2 c = leaves-as (write-ends _ _ _ _ _ _ _ (none-left _ _ (rw (c .before .before .access-count .ensures) at (c .before .if1 .left)))) (leaves _ _ (c .finish .ensures))
 
 pub next-write-spec : {M : Type 1} → statement M
 next-write-spec =

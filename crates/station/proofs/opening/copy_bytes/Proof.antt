@@ -18,8 +18,8 @@ abbrev μ-loop : tie.MeasureT-loop
 loop-holds : tie.Need-loop-holds Inv-loop μ-loop
 loop-holds c = (search needs, refl, sym (copied-none _ _))
 
-shared-slice-read-target : tie.Need-shared-slice-read-target Inv-loop μ-loop
-shared-slice-read-target c = omega arith
+byte-at-requires : tie.Need-byte-at-requires Inv-loop μ-loop
+byte-at-requires c κs = search needs
 
 slice-write-target : tie.Need-slice-write-target Inv-loop μ-loop
 slice-write-target c = omega arith
@@ -33,14 +33,14 @@ loop-less c = omega arith
 loop-again : tie.Need-loop-again Inv-loop μ-loop
 loop-again c =
     let l = c .before .before .loop in
-    (omega arith, simp length-set (l .inv .1), copied-turn _ _ _ _ _ (l .inv .2) refl)
+    (omega arith, simp length-set (l .inv .1), copied-turn _ _ _ _ _ (l .inv .2) (c .byte-at .ensures))
 
 same-length : tie.Need-same-length Inv-loop μ-loop
 same-length c = c .before .loop .inv .1
 
 returns : tie.Need-returns Inv-loop μ-loop
 returns c =
-    let a = c .before .before .args in
+    let a = c .before .before .before .before .args in
     let end : c .before .loop .i ≡ a .n = omega arith in
     rw (sym end) (c .before .loop .inv .2)
 
@@ -51,7 +51,7 @@ copy-bytes-spec =
     Inv-loop
     μ-loop
     loop-holds
-    shared-slice-read-target
+    byte-at-requires
     slice-write-target
     add-i
     loop-less

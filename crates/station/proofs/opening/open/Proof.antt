@@ -1,13 +1,14 @@
 -- `station::opening::open` meets its contract.
 use Prim.Native.Nat.{ℕ}
 use mathlib.Core.Path.{_∙_, ap, refl}
+use mathlib.Core.List.{[]}
 use denote.Ref.{now}
 use borrow.Author.Needs.{needs}
 use Rattle.tables.specs.View.{Tables}
 use Rattle.station.specs.Standing.{tablesOf}
-use Rattle.station.specs.Station.{State, stateOf, copied, cleared}
-use Rattle.station.proofs.CallLaws.{leaves-as, leaves-refused, guard-refuses, guard-passes, opens}
-use Rattle.station.proofs.Meeting.{meets}
+use Rattle.station.specs.Station.{State, stateOf, copied}
+use Rattle.station.proofs.CallLaws.{opens}
+use Rattle.station.proofs.Meeting.{meets-refused, meets-passed}
 use Rattle.station.proofs.Bridge.{open-is}
 use Rattle.station.proofs.opening.open.Statement.{statement}
 use Rattle.station.proofs.opening.open.Tie as tie
@@ -25,24 +26,26 @@ refuse-requires : tie.Need-refuse-requires
 refuse-requires c κs = search needs
 
 returns : tie.Need-returns
-returns c = meets (open-is (tables-at (c .before .before .before .before .before .before .before .before .before)) (now (c .before .before .before .before .before .before .before .before .before .args .power)) (state-at (c .before .before .before .before .before .before .before .before .before))) (
-    leaves-as (guard-refuses _ _ (state-at (c .before .before .before .before .before .before .before .before .before)) (c .before .before .open-fault .ensures) _ (c .before .if1 .taken)) (leaves-refused (state-at (c .before .before .before .before .before .before .before .before .before)) _ (c .refuse .ensures)))
+returns c = meets-refused (state-at (c .before .before .before .before .before .before .before .before .before)) _ (open-is (tables-at (c .before .before .before .before .before .before .before .before .before)) (now (c .before .before .before .before .before .before .before .before .before .args .power)) (state-at (c .before .before .before .before .before .before .before .before .before))) (c .before .before .open-fault .ensures) (c .before .if1 .taken) (c .refuse .ensures)
 
 word-requires : tie.Need-word-requires
 word-requires c κs = search needs
 
 copy-bytes-requires : tie.Need-copy-bytes-requires
 copy-bytes-requires c κs =
-    let long = opens (tables-at (c .before .before .before .before .before .before .before .before .before .before)) _ _ _ _ (c .before .before .before .open-fault .ensures) (c .before .before .if1 .left) in
-    rw (c .word .ensures .is) (long .0, long .1)
+    let clear = opens (tables-at (c .before .before .before .before .before .before .before .before .before .before)) _ _ _ _ (c .before .before .before .open-fault .ensures) (c .before .before .if1 .left) in
+    rw (c .word .ensures .is) (clear .held-long)
+
+slice-aggregate-copy-bytes : tie.Need-slice-aggregate-copy-bytes
+slice-aggregate-copy-bytes c = search needs
 
 word-requires-2 : tie.Need-word-requires-2
 word-requires-2 c κs = search needs
 
-clear-bytes-requires : tie.Need-clear-bytes-requires
-clear-bytes-requires c κs =
-    let long = opens (tables-at (c .before .before .before .before .before .before .before .before .before .before .before .before .before .before .before)) _ _ _ _ (c .before .before .before .before .before .before .before .before .open-fault .ensures) (c .before .before .before .before .before .before .before .if1 .left) in
-    rw (c .word2 .ensures .is) (long .2)
+copy-bytes-requires-2 : tie.Need-copy-bytes-requires-2
+copy-bytes-requires-2 c κs =
+    let clear = opens (tables-at (c .before .before .before .before .before .before .before .before .before .before .before .before .before .before .before .before)) _ _ _ _ (c .before .before .before .before .before .before .before .before .before .open-fault .ensures) (c .before .before .before .before .before .before .before .before .if1 .left) in
+    rw (c .word2 .ensures .is) (clear .marks-long)
 
 same-length : tie.Need-same-length
 same-length c = search needs
@@ -51,13 +54,13 @@ same-length-2 : tie.Need-same-length-2
 same-length-2 c = search needs
 
 returns-2 : tie.Need-returns-2
-returns-2 c = meets (open-is (tables-at (c .before .before .before .before .before .before .before .before .before .before .before .before .before .before .before .before .before .before)) (now (c .before .before .before .before .before .before .before .before .before .before .before .before .before .before .before .before .before .before .args .power)) (state-at (c .before .before .before .before .before .before .before .before .before .before .before .before .before .before .before .before .before .before))) (
-    let a = c .before .before .before .before .before .before .before .before .before .before .before .before .before .before .before .before .before .before .args in
-    leaves-as (guard-passes _ _ (state-at (c .before .before .before .before .before .before .before .before .before .before .before .before .before .before .before .before .before .before)) (c .before .before .before .before .before .before .before .before .before .before .before .open-fault .ensures) _ (c .before .before .before .before .before .before .before .before .before .before .if1 .left)) (record {
+returns-2 c =
+    let a = c .before .before .before .before .before .before .before .before .before .before .before .before .before .before .before .before .before .before .before .args in
+    meets-passed (state-at (c .before .before .before .before .before .before .before .before .before .before .before .before .before .before .before .before .before .before .before)) _ (open-is (tables-at (c .before .before .before .before .before .before .before .before .before .before .before .before .before .before .before .before .before .before .before)) (now (c .before .before .before .before .before .before .before .before .before .before .before .before .before .before .before .before .before .before .before .args .power)) (state-at (c .before .before .before .before .before .before .before .before .before .before .before .before .before .before .before .before .before .before .before))) (c .before .before .before .before .before .before .before .before .before .before .before .before .open-fault .ensures) (c .before .before .before .before .before .before .before .before .before .before .before .if1 .left) refl (record {
       outcome-is = refl;
-      held-is = c .before .before .before .before .before .before .before .copy-bytes .ensures ∙ ap (λ (n : ℕ). copied (now (a .power)) (now (a .held)) n) (c .before .before .before .before .before .before .before .before .word .ensures .is);
-      marks-is = c .before .before .clear-bytes .ensures ∙ ap (λ (n : ℕ). cleared (now (a .marks)) n) (c .before .before .before .word2 .ensures .is);
-    }))
+      held-is = c .before .before .before .before .before .before .before .before .copy-bytes .ensures ∙ ap (λ (n : ℕ). copied (now (a .power)) (now (a .held)) n) (c .before .before .before .before .before .before .before .before .before .word .ensures .is);
+      marks-is = c .before .before .copy-bytes2 .ensures ∙ ap (λ (n : ℕ). copied [] (now (a .marks)) n) (c .before .before .before .word2 .ensures .is);
+    })
 
 pub open-spec : {M : Type 1} → statement M
 open-spec =
@@ -68,8 +71,9 @@ open-spec =
     returns
     word-requires
     copy-bytes-requires
+    slice-aggregate-copy-bytes
     word-requires-2
-    clear-bytes-requires
+    copy-bytes-requires-2
     same-length
     same-length-2
     returns-2)

@@ -3,53 +3,28 @@ use mathlib.Core.Path.{_∙_, sym}
 use borrow.Author.Tests.{lt-ltb, le-ltb}
 use borrow.Author.Needs.{needs}
 use Rattle.station.specs.Station.{openFault}
-use Rattle.station.proofs.Laws.{stops-first, stops-second, stops-third, goes-on}
+use Rattle.station.proofs.Laws.{comes-first, next-decides}
 use Rattle.station.proofs.opening.open_fault.Statement.{statement}
 use Rattle.station.proofs.opening.open_fault.Tie as tie
 use Rattle.logic.proofs.Tests.{failed, passed}
 
-sound-requires : tie.Need-sound-requires
-sound-requires c κs = search needs
+fault-requires : tie.Need-fault-requires
+fault-requires c κs = search needs
 
 returns : tie.Need-returns
 unfolding openFault
-returns c = sym (stops-first _ (failed (c .before .sound .ensures) (c .if1 .taken)))
+returns c = comes-first _ (c .before .fault .ensures) (c .if1 .taken)
 
 word-requires : tie.Need-word-requires
 word-requires c κs = search needs
 
 returns-2 : tie.Need-returns-2
 unfolding openFault
-returns-2 c = sym (stops-second _ (passed (c .before .before .before .sound .ensures) (c .before .before .if1 .left)) (rw (c .before .word .ensures .is) at (lt-ltb _ _ (c .if2 .taken))))
-
-word-requires-2 : tie.Need-word-requires-2
-word-requires-2 c κs = search needs
+returns-2 c = sym (next-decides _ (c .before .before .before .fault .ensures) (c .before .before .if1 .left) ∙ rw (rw (c .before .word .ensures .is) at (lt-ltb _ _ (c .if2 .taken))))
 
 returns-3 : tie.Need-returns-3
 unfolding openFault
-returns-3 c = sym (stops-third _ (passed (c .before .before .before .before .before .sound .ensures) (c .before .before .before .before .if1 .left)) (rw (c .before .before .before .word .ensures .is) at (le-ltb _ _ (c .before .before .if2 .left))) (rw (c .before .word2 .ensures .is) at (lt-ltb _ _ (c .if3 .taken))))
-
-word-requires-3 : tie.Need-word-requires-3
-word-requires-3 c κs = search needs
-
-returns-4 : tie.Need-returns-4
-unfolding openFault
-returns-4 c = sym (goes-on _ (passed (c .before .before .before .before .before .before .before .sound .ensures) (c .before .before .before .before .before .before .if1 .left)) (rw (c .before .before .before .before .before .word .ensures .is) at (le-ltb _ _ (c .before .before .before .before .if2 .left))) (rw (c .before .before .before .word2 .ensures .is) at (le-ltb _ _ (c .before .before .if3 .left))) ∙ rw (rw (c .before .word3 .ensures .is) at (lt-ltb _ _ (c .if4 .taken))))
-
-returns-5 : tie.Need-returns-5
-unfolding openFault
-returns-5 c = sym (goes-on _ (passed (c .before .before .before .before .before .before .before .sound .ensures) (c .before .before .before .before .before .before .if1 .left)) (rw (c .before .before .before .before .before .word .ensures .is) at (le-ltb _ _ (c .before .before .before .before .if2 .left))) (rw (c .before .before .before .word2 .ensures .is) at (le-ltb _ _ (c .before .before .if3 .left))) ∙ rw (rw (c .before .word3 .ensures .is) at (le-ltb _ _ (c .if4 .left))))
+returns-3 c = sym (next-decides _ (c .before .before .before .fault .ensures) (c .before .before .if1 .left) ∙ rw (rw (c .before .word .ensures .is) at (le-ltb _ _ (c .if2 .left))))
 
 pub open-fault-spec : {M : Type 1} → statement M
-open-fault-spec =
-    tie.close
-    (tie.spec
-    sound-requires
-    returns
-    word-requires
-    returns-2
-    word-requires-2
-    returns-3
-    word-requires-3
-    returns-4
-    returns-5)
+open-fault-spec = tie.close (tie.spec fault-requires returns word-requires returns-2 returns-3)

@@ -1,8 +1,8 @@
--- `station::accesses::read_access` meets its contract.
+-- `station::accesses::access_of` meets its contract.
 use mathlib.Core.Path.{sym}
 use borrow.Author.Needs.{needs}
-use Rattle.station.proofs.accesses.read_access.Statement.{statement}
-use Rattle.station.proofs.accesses.read_access.Tie as tie
+use Rattle.station.proofs.accesses.access_of.Statement.{statement}
+use Rattle.station.proofs.accesses.access_of.Tie as tie
 
 mul-word : tie.Need-mul-word
 mul-word c = search needs
@@ -43,8 +43,8 @@ word-requires-2 c κs = search needs
 returns : tie.Need-returns
 returns c = simp (sym (c .before .word .ensures .is), sym (c .word2 .ensures .is))
 
-pub read-access-spec : {M : Type 1} → statement M
-read-access-spec =
+pub access-of-spec : {M : Type 1} → statement M
+access-of-spec =
     tie.close
     (tie.spec
     mul-word
