@@ -18,16 +18,19 @@ abbrev IsHalf : Due → Type 0
 IsHalf (Gives z) = ⊥
 IsHalf HalfWritten = Unit {0}
 
+pub gives≢half : {z : ℤ} → Gives z ≡ HalfWritten → ⊥
+gives≢half e = subst IsHalf (sym e) tt
+
 module _ (t : Tables) (power : Cells) where
   -- what must be read is half-written only where the last write was abandoned
   pub half-is : (es : List Event) (v : ℕ) → mustRead t power es v ≡ HalfWritten → isHalf es v ≡ true
   unfolding mustRead isHalf
-  half-is [] v e = absurd (subst IsHalf (sym e) tt)
+  half-is [] v e = absurd (gives≢half e)
   half-is (Finished u z ∷ es) v e = go (eqb v u) e (half-is es v)
     where
       go : (b : Bool) → cond b (Gives z) (mustRead t power es v) ≡ HalfWritten → (mustRead t power es v ≡ HalfWritten → isHalf es v ≡ true)
           → cond b false (isHalf es v) ≡ true
-      go true e rest = absurd (subst IsHalf (sym e) tt)
+      go true e rest = absurd (gives≢half e)
       go false e rest = rest e
   half-is (Abandoned u ∷ es) v e = go (eqb v u) e (half-is es v)
     where

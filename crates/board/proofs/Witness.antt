@@ -7,7 +7,7 @@ use mathlib.Core.Bool.{Bool, true, false, true≢false, false≢true}
 use mathlib.Core.List.{List, [], _∷_, _++_}
 use native.Mathlib.Nat.{not-suc-le-zero, le-of-suc-le-suc}
 use native.Mathlib.Omega.{arith}
-use lib.IntN.{ℤ, pos, negsuc}
+use lib.IntN.{ℤ, pos, natAbs}
 use lib.ListN.{length, getD, replicate}
 use Rattle.tables.specs.declared.Part.the-variants.{Read as reading, Write as writing}
 use Rattle.tables.specs.Marks.{joined, downFrom}
@@ -144,15 +144,11 @@ firstCalls = writesOf (valued 0xABC 3 9) sevens (0 ∷ 1 ∷ 2 ∷ [])
 abbrev secondCalls : List Call
 secondCalls = writesOf (valued 0xABD 3 9) sevens (2 ∷ 0 ∷ 1 ∷ [])
 
-abbrev naturalOf : ℤ → ℕ
-naturalOf (pos n) = n
-naturalOf (negsuc n) = 0
-
 -- by the theorem they end unequal, since the values are
 boards-differ : EqualBoards scoring (worldAfter start firstCalls) (worldAfter start secondCalls) → ⊥
 boards-differ same =
     let e = demand-3 scoring power .two-boards start start _ _ _ _ _ _ first-work second-work .0 same 0 (plain 0 (omega arith)) in
-    unlike (ap naturalOf e)
+    unlike (ap natAbs e)
   where
     unlike : _≡_ {A = ℕ} 0xABC 0xABD → ⊥
     unlike e = omega arith
