@@ -12,6 +12,7 @@ use Rattle.token.specs.declared.Scanned.{Scanned}
 use Rattle.token.specs.Scan.{scanAt}
 use Rattle.token.specs.Fair.{placeOf}
 use Rattle.token.specs.Kind.{kindOf}
+use Rattle.syntax.specs.KindNames.{'register'}
 use Rattle.syntax.specs.Text.{begins}
 use Rattle.rules.specs.Names.{nameOf}
 
@@ -60,4 +61,4 @@ unfoldable pub openingOf : List ℕ → ℕ → ℕ
 openingOf text place = openingFrom text place (length text) 0 (length text)
 
 abbrev pub opensRegister : List ℕ → ℕ → Bool
-opensRegister text place = eqb (kindOf (scanAt text (openingOf text place) .token)) 529
+opensRegister text place = eqb (kindOf (scanAt text (openingOf text place) .token)) 'register'

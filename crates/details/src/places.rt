@@ -5,6 +5,9 @@ use rules::names::name_of;
 use rules::words::choose;
 use token::Token;
 
+// The kind of the word `register`.
+const REGISTER: u16 = 529;
+
 fn breaks_at(text: &[u8], place: usize) -> bool
     ensures { λ r. ⌜ r ≡ breaksAt (now (text .entry)) place ⌝ }
 {
@@ -92,5 +95,5 @@ pub fn in_register(text: &[u8], place: usize) -> bool
 {
     let found = token_reader::scan_at(text, opening(text, place));
     let token = found.token;
-    token::kind_of(token) == 529
+    token::kind_of(token) == REGISTER
 }

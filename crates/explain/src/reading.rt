@@ -8,6 +8,9 @@ use details::places::opening;
 use rules::names::name_of;
 use token::Token;
 
+// The index of `register` among the reserved words.
+const REGISTER: u8 = 17;
+
 fn byte_at(text: &[u8], place: usize) -> u8 {
     if place < text.len() { text[place] } else { 0 }
 }
@@ -86,7 +89,7 @@ fn show_size(text: &[u8], place: usize) {
     match token {
         Token::Name(_, _) => show_extra_name(text, place),
         Token::Word(_, word) => {
-            if word == 17 {
+            if word == REGISTER {
                 write(b"a device has at most 64 registers\n");
             } else {
                 write(b"a device has at most 128 variables\n");
