@@ -32,18 +32,15 @@ fn show_blank(byte: u8) {
     }
 }
 
-fn show_bytes(bytes: &[u8]) {
+// Bytes of a line, or blanks as wide as they, to stand before the caret.
+fn show_bytes(bytes: &[u8], blank: bool) {
     let mut k = 0;
     while k < bytes.len() {
-        show_byte(bytes[k]);
-        k += 1;
-    }
-}
-
-fn show_blanks(bytes: &[u8]) {
-    let mut k = 0;
-    while k < bytes.len() {
-        show_blank(bytes[k]);
+        if blank {
+            show_blank(bytes[k]);
+        } else {
+            show_byte(bytes[k]);
+        }
         k += 1;
     }
 }
@@ -67,12 +64,12 @@ fn show_around(text: &[u8], place: usize, before: usize, cut: bool) {
     let tail = name_of(text, place, least(rest, span(before, SHOWN)));
     write(b"\n    ");
     show_cut(cut, b"...");
-    show_bytes(lead);
-    show_bytes(tail);
+    show_bytes(lead, false);
+    show_bytes(tail, false);
     show_cut(tail.len() < rest, b"...");
     write(b"\n    ");
     show_cut(cut, b"   ");
-    show_blanks(lead);
+    show_bytes(lead, true);
     write(b"^\n");
 }
 
