@@ -1,6 +1,6 @@
 -- What the pieces of a part hold, one after the other.
 -- Assumes nothing.
-use Prim.Native.Nat.{ℕ, zero, suc, _+_, _-_, _*_, _<_}
+use Prim.Native.Nat.{ℕ, zero, suc, _+_, _-_, _*_, _≤_}
 use native.Mathlib.Omega.{arith}
 use mathlib.Core.Path.{_≡_, refl, sym, ap, ap₂, _∙_}
 use mathlib.Core.Bool.{Bool, true, false, _&&_, _||_, or-assoc, or-false}
@@ -13,7 +13,9 @@ use Rattle.tables.specs.Marks.{downFrom, has, joined}
 use Rattle.tables.specs.declared.Piece.{Piece}
 use Rattle.tables.specs.Tables.{pieceIn, pieceBits}
 use Rattle.tables.proofs.Laws.{first-none}
-use Rattle.tables.proofs.MarkLaws.{joined-more, piece-run, piece-rises}
+use Rattle.details.specs.declared.search.Test.{Test}
+use Rattle.details.specs.Search.{passes}
+use Rattle.tables.proofs.MarkLaws.{joined-more, piece-run}
 
 -- a run of numbers has those between its ends
 run-none : (x from : ℕ) → false ≡ (leb from x && ltb x (from + 0))
@@ -41,15 +43,26 @@ unfolding has downFrom
 has-down x from zero = run-none x from
 has-down x from (suc n) = ap (λ (b : Bool). eqb x (from + n) || b) (has-down x from n) ∙ run-more x from n (eqb x (from + n)) refl
 
--- a piece, by the words that say where it is
-pub piece-has : (vs : List ℕ) (piece x : ℕ) {r h l : ℕ} → r ≡ getD vs piece 0 → h ≡ getD vs (piece + 1) 0 → l ≡ getD vs (piece + 2) 0
-    → (leb (32 * r + l) x && ltb x (32 * r + l + (h + 1 - l))) ≡ has x (pieceBits (pieceIn vs piece))
-piece-has vs piece x {r} {h} {l} er eh el = sym (has-down x (32 * r + l) (h + 1 - l)) ∙ ap (has x) (piece-run vs piece er eh el)
+-- a piece, by the words that say where it is: it has the numbers from its low bit to its high one, and none where it rises
+piece-ends : (x from r h l : ℕ) → from ≡ 32 * r + l → (leb from x && ltb x (32 * r + h + 1)) ≡ (leb from x && ltb x (from + (h + 1 - l)))
+piece-ends x from r h l f = go (leb from x) refl
+  where
+    here : from ≤ x → (b : Bool) → ltb x (32 * r + h + 1) ≡ b → b ≡ ltb x (from + (h + 1 - l))
+    here le true e =
+        let lt = ltb-true x (32 * r + h + 1) e in
+        sym (lt-ltb x (from + (h + 1 - l)) (omega arith))
+    here le false e =
+        let past = ltb-false x (32 * r + h + 1) e in
+        sym (le-ltb x (from + (h + 1 - l)) (omega arith))
 
-pub piece-has-none : (vs : List ℕ) (piece x : ℕ) {r h l : ℕ} → r ≡ getD vs piece 0 → h ≡ getD vs (piece + 1) 0 → l ≡ getD vs (piece + 2) 0
-    → h < l → false ≡ has x (pieceBits (pieceIn vs piece))
-unfolding has downFrom
-piece-has-none vs piece x {r} {h} {l} er eh el lt = ap (has x) (piece-rises vs piece er eh el lt)
+    go : (b : Bool) → leb from x ≡ b → (b && ltb x (32 * r + h + 1)) ≡ (b && ltb x (from + (h + 1 - l)))
+    go true e = here (leb-true from x e) (ltb x (32 * r + h + 1)) refl
+    go false e = refl
+
+pub piece-has : (vs : List ℕ) (piece x : ℕ) {r h l : ℕ} → r ≡ getD vs piece 0 → h ≡ getD vs (piece + 1) 0 → l ≡ getD vs (piece + 2) 0
+    → (leb (32 * r + l) x && ltb x (32 * r + h + 1)) ≡ has x (pieceBits (pieceIn vs piece))
+piece-has vs piece x {r} {h} {l} er eh el =
+    piece-ends x (32 * r + l) r h l refl ∙ sym (has-down x (32 * r + l) (h + 1 - l)) ∙ ap (has x) (piece-run vs piece er eh el)
 
 -- a piece, made of its words
 pub piece-made : (vs : List ℕ) (at : ℕ) {r h l : ℕ} → r ≡ getD vs at 0 → h ≡ getD vs (at + 1) 0 → l ≡ getD vs (at + 2) 0
@@ -77,3 +90,14 @@ has-single x {y} {z} e = ap (eqb x) e ∙ sym (or-false (eqb x z))
 -- a search among none
 pub first-zero : (n : ℕ) (p : ℕ → Bool) → n ≡ 0 → 0 ≡ firstOf n p
 first-zero n p e = sym (ap (λ (k : ℕ). firstOf k p) e ∙ first-none p)
+
+-- a test that a match has told
+pub told : (t : List ℕ) (k : ℕ) {test other : Test} {b : Bool} → b ≡ passes t other k → test ≡ other → b ≡ passes t test k
+told t k h e = h ∙ ap (λ (x : Test). passes t x k) (sym e)
+
+-- where the two parts of an entry start
+pub read-start : (first words : ℕ) → first ≡ first + words * 0
+read-start first words = omega arith
+
+pub write-start : (first words : ℕ) → first + words ≡ first + words * 1
+write-start first words = omega arith

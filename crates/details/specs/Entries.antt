@@ -5,8 +5,8 @@ use mathlib.Core.Bool.{Bool}
 use mathlib.Core.List.{List}
 use lib.Dec.{eqb}
 use lib.ListN.{getD}
-use Rattle.tables.specs.Every.{every, firstOf}
-use Rattle.tables.specs.Tables.{countOf, registerAt, registerPart, variablePart}
+use Rattle.tables.specs.Every.{every}
+use Rattle.tables.specs.Tables.{registerPart, variablePart}
 use Rattle.rules.specs.Names.{nameOf}
 
 -- the name recorded by the entry at a word of a table
@@ -17,10 +17,6 @@ nameIn text table at = nameOf text (getD table at 0) (getD table (at + 1) 0)
 pub record Stands (at r : ℕ) : Type 0 where
   pub is : r ≡ at
   pub small : r < 2 ^ 40
-
--- the first register whose name stands at a place, or their count
-unfoldable pub registerNamedAt : List ℕ → ℕ → ℕ
-registerNamedAt rs place = firstOf (countOf rs) (λ i. eqb (getD rs (registerAt i) 0) place)
 
 -- so many words of a table, from two places on, are the same
 unfoldable pub alike : List ℕ → ℕ → ℕ → ℕ → Bool

@@ -2,4 +2,6 @@
 pub mod Places
 pub mod Entries
 pub mod Holders
+pub mod Search
+pub mod Rows
 pub mod Broken

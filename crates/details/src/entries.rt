@@ -3,13 +3,21 @@ ghost use mathlib.Core.Path.{_≡_};
 ghost use Prim.Native.Nat.{_+_, _*_, _<_, _^_};
 ghost use lib.Dec.{eqb};
 ghost use Rattle.tables.specs.Every.{Word};
-ghost use Rattle.tables.specs.Tables.{parameterAt, parameterWidth, rangeCount, rangeOf, registerAt, registerWidth, registerPart, variableAt, variablePart, variablePartOf, kindOf, widthOf, volatileOf};
+ghost use lib.ListN.{getD};
+ghost use Rattle.tables.specs.Tables.{countOf, parameterAt, parameterWidth, rangeCount, rangeOf, registerAt, registerWidth, registerPart, registerPartOf, variableAt, variablePart, variablePartOf, kindOf, widthOf, volatileOf};
 ghost use Rattle.tables.specs.View.{partNo};
-ghost use Rattle.details.specs.Entries.{nameIn, Stands, registerNamedAt, alike, samePlace, sameParts};
+ghost use Rattle.details.specs.Entries.{nameIn, Stands, alike, samePlace, sameParts};
 use rules::names::name_of;
 use tables::Part;
 use tables::Piece;
 use tables::words::word;
+
+// How many entries a table counts.
+pub fn count_of(table: &[u32]) -> u32
+    ensures { λ r. ⌜ r ≡ countOf (now (table .entry)) ⌝ }
+{
+    word(table, 0) as u32
+}
 
 fn name_in<'a, 'b>(text: &'a [u8], table: &'b [u32], at: usize) -> &'a [u8]
     requires { ⌜ at < 2 ^ 40 ⌝ }
@@ -53,21 +61,6 @@ pub fn variable_place(variables: &[u32], v: u32) -> usize
     ensures { λ r. ⌜ Word (now (variables .entry)) (variableAt v) r ⌝ }
 {
     word(variables, 59 * (v as usize) + 1)
-}
-
-// The first register whose name stands at a place, or their count.
-pub fn register_named_at(registers: &[u32], place: usize) -> u32
-    ensures { λ r. ⌜ r ≡ registerNamedAt (now (registers .entry)) place ⌝ }
-{
-    let n = word(registers, 0) as u32;
-    let mut i: u32 = 0;
-    while i < n {
-        if register_place(registers, i) == place {
-            return i;
-        }
-        i += 1;
-    }
-    i
 }
 
 pub fn parameter_width(parameters: &[u32], i: u32) -> usize
@@ -118,30 +111,67 @@ pub fn range_high(parameters: &[u32], i: u32, k: u32) -> usize
     word(parameters, 36 * (i as usize) + 1 + 4 + 2 * (k as usize) + 1)
 }
 
-// The word at which a part of a register starts.
-pub fn register_part(i: u32, part: Part) -> usize
-    ensures { λ r. ⌜ Stands (registerPart i (partNo part)) r ⌝ }
+// The word at which a part of an entry starts: the read part at `first`, the write part so many words behind it.
+fn part_from(first: usize, words: usize, part: Part) -> usize
+    requires { ⌜ (first < 2 ^ 39) × (words < 2 ^ 39) ⌝ }
+    ensures { λ r. ⌜ Stands (first + words * partNo part) r ⌝ }
 {
     match part {
-        Part::Read => 15 * (i as usize) + 4 + 6 * 0,
-        Part::Write => 15 * (i as usize) + 4 + 6 * 1,
+        Part::Read => first,
+        Part::Write => first + words,
     }
 }
 
-// The word at which a part of a variable starts.
 pub fn variable_part(v: u32, part: Part) -> usize
     ensures { λ r. ⌜ Stands (variablePart v (partNo part)) r ⌝ }
 {
-    match part {
-        Part::Read => 59 * (v as usize) + 6 + 27 * 0,
-        Part::Write => 59 * (v as usize) + 6 + 27 * 1,
-    }
+    part_from(59 * (v as usize) + 6, 27, part)
+}
+
+// Is a part there, as its first word says?
+fn part_present(table: &[u32], first: usize, words: usize, part: Part) -> bool
+    requires { ⌜ (first < 2 ^ 39) × (words < 2 ^ 39) ⌝ }
+    ensures { λ r. ⌜ r ≡ eqb (getD (now (table .entry)) (first + words * partNo part) 0) 1 ⌝ }
+{
+    word(table, part_from(first, words, part)) == 1
+}
+
+pub fn register_has(registers: &[u32], i: u32, part: Part) -> bool
+    ensures { λ r. ⌜ r ≡ registerPartOf (now (registers .entry)) (partNo part) i .present ⌝ }
+{
+    part_present(registers, 15 * (i as usize) + 4, 6, part)
+}
+
+pub fn variable_has(variables: &[u32], v: u32, part: Part) -> bool
+    ensures { λ r. ⌜ r ≡ variablePartOf (now (variables .entry)) (partNo part) v .present ⌝ }
+{
+    part_present(variables, 59 * (v as usize) + 6, 27, part)
+}
+
+// Word k of a part.
+fn part_word(table: &[u32], first: usize, words: usize, part: Part, k: u32) -> usize
+    requires { ⌜ (first < 2 ^ 39) × (words < 2 ^ 39) ⌝ }
+    ensures { λ r. ⌜ Word (now (table .entry)) (first + words * partNo part + k) r ⌝ }
+{
+    word(table, part_from(first, words, part) + k as usize)
+}
+
+pub fn register_word(registers: &[u32], i: u32, part: Part, k: u32) -> usize
+    ensures { λ r. ⌜ Word (now (registers .entry)) (registerPart i (partNo part) + k) r ⌝ }
+{
+    part_word(registers, 15 * (i as usize) + 4, 6, part, k)
+}
+
+pub fn variable_word(variables: &[u32], v: u32, part: Part, k: u32) -> usize
+    ensures { λ r. ⌜ Word (now (variables .entry)) (variablePart v (partNo part) + k) r ⌝ }
+{
+    part_word(variables, 59 * (v as usize) + 6, 27, part, k)
 }
 
 pub fn piece_count(variables: &[u32], v: u32, part: Part) -> u32
     ensures { λ r. ⌜ r ≡ variablePartOf (now (variables .entry)) (partNo part) v .count ⌝ }
 {
-    word(variables, variable_part(v, part) + 2) as u32
+    variable_word(variables, v, part, 2) as u32
 }
 
 pub fn piece_of(variables: &[u32], v: u32, part: Part, k: u32) -> Piece
@@ -156,7 +186,7 @@ pub fn piece_of(variables: &[u32], v: u32, part: Part, k: u32) -> Piece
 }
 
 // Are so many words of a table the same from two places on?
-pub fn alike_words(table: &[u32], a: usize, b: usize, n: usize) -> bool
+fn alike_words(table: &[u32], a: usize, b: usize, n: usize) -> bool
     requires { ⌜ (a < 2 ^ 40) × (b < 2 ^ 40) × (n < 2 ^ 40) ⌝ }
     ensures { λ r. ⌜ r ≡ alike (now (table .entry)) a b n ⌝ }
 {
@@ -169,24 +199,24 @@ pub fn alike_words(table: &[u32], a: usize, b: usize, n: usize) -> bool
     ok
 }
 
+// Are the first n words of both parts of an entry the same?
+pub fn alike_parts(table: &[u32], first: usize, words: usize, n: usize) -> bool
+    requires { ⌜ (first < 2 ^ 39) × (words < 2 ^ 39) × (n < 2 ^ 40) ⌝ }
+    ensures { λ r. ⌜ r ≡ alike (now (table .entry)) (first + words * 0) (first + words * 1) n ⌝ }
+{
+    let read = part_from(first, words, Part::Read);
+    let write = part_from(first, words, Part::Write);
+    alike_words(table, read, write, n)
+}
+
 pub fn same_place(registers: &[u32], i: u32) -> bool
     ensures { λ r. ⌜ r ≡ samePlace (now (registers .entry)) i ⌝ }
 {
-    alike_words(
-        registers,
-        register_part(i, Part::Read),
-        register_part(i, Part::Write),
-        3,
-    )
+    alike_parts(registers, 15 * (i as usize) + 4, 6, 3)
 }
 
 pub fn same_parts(variables: &[u32], v: u32) -> bool
     ensures { λ r. ⌜ r ≡ sameParts (now (variables .entry)) v ⌝ }
 {
-    alike_words(
-        variables,
-        variable_part(v, Part::Read),
-        variable_part(v, Part::Write),
-        27,
-    )
+    alike_parts(variables, 59 * (v as usize) + 6, 27, 27)
 }

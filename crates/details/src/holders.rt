@@ -1,15 +1,14 @@
-// Which variable holds a bit, or has one in a register.
+// Which variable holds a bit, or has one in a register, and what two of them share.
 ghost use mathlib.Core.Path.{_≡_};
 ghost use Prim.Native.Nat.{_+_, _*_, _<_, _^_};
 ghost use Rattle.tables.specs.Marks.{has};
 ghost use Rattle.tables.specs.Tables.{pieceIn, pieceBits, variablePartOf};
 ghost use Rattle.tables.specs.View.{partNo};
-ghost use Rattle.details.specs.Holders.{holds, holderBelow, touches, mentionedBelow, pulls, besideBelow, holderOf, runBelow, sameHolders, sameRegister};
-use crate::entries::alike_words;
+ghost use Rattle.details.specs.Holders.{holds, touches, mentionedBelow, pulls, shareIn};
 use crate::entries::piece_count;
 use crate::entries::piece_of;
-use crate::entries::register_part;
 use crate::entries::variable_part;
+use crate::entries::variable_word;
 use tables::Part;
 use tables::words::word;
 
@@ -21,11 +20,7 @@ fn piece_holds(variables: &[u32], piece: usize, number: usize) -> bool
     let register = word(variables, piece);
     let high = word(variables, piece + 1);
     let low = word(variables, piece + 2);
-    let from = 32 * register + low;
-    if low <= high {
-        return (from <= number) & (number < from + (high + 1 - low));
-    }
-    false
+    (32 * register + low <= number) & (number < 32 * register + high + 1)
 }
 
 // Does variable v map this bit?
@@ -43,29 +38,15 @@ pub fn holds_bit(variables: &[u32], part: Part, number: usize, v: u32) -> bool
     found
 }
 
-// The first of n variables that maps this bit, or n.
-pub fn holder_below(variables: &[u32], n: u32, part: Part, number: usize) -> u32
-    ensures { λ r. ⌜ r ≡ holderBelow (now (variables .entry)) n part number ⌝ }
-{
-    let mut v: u32 = 0;
-    while v < n {
-        if holds_bit(variables, part, number, v) {
-            return v;
-        }
-        v += 1;
-    }
-    v
-}
-
 // Does one of the first k pieces of variable v mention this register?
 pub fn mentioned_below(variables: &[u32], part: Part, register: usize, v: u32, k: u32) -> bool
     ensures { λ r. ⌜ r ≡ mentionedBelow (now (variables .entry)) part register v k ⌝ }
 {
-    let at = variable_part(v, part);
     let mut found = false;
     let mut j: u32 = 0;
     while j < k {
-        found = found | (register == word(variables, at + 3 + 3 * (j as usize)));
+        let piece = piece_of(variables, v, part, j);
+        found = found | (register == piece.register);
         j += 1;
     }
     found
@@ -95,70 +76,27 @@ pub fn mentioned_before(variables: &[u32], v: u32, part: Part, k: u32) -> bool
 pub fn pulls_trigger(variables: &[u32], part: Part, v: u32) -> bool
     ensures { λ r. ⌜ r ≡ pulls (now (variables .entry)) part v ⌝ }
 {
-    word(variables, variable_part(v, part) + 1) == 1
+    variable_word(variables, v, part, 1) == 1
 }
 
-// The first of the variables before v with a bit in this register, one of the two being trigger, or v.
-pub fn beside_below(variables: &[u32], v: u32, part: Part, register: usize) -> u32
-    ensures { λ r. ⌜ r ≡ besideBelow (now (variables .entry)) v part register ⌝ }
+// What two variables may not share in a part: a bit (rule 14); a register, where one of the two is trigger (rule 15).
+pub enum Shared {
+    Bit,
+    Register,
+}
+
+// Do two variables share this bit or this register?
+pub fn shares(variables: &[u32], v: u32, part: Part, shared: Shared, number: usize, u: u32) -> bool
+    ensures { λ r. ⌜ r ≡ shareIn (now (variables .entry)) v part shared number u ⌝ }
 {
-    let own = pulls_trigger(variables, part, v);
-    let mut u: u32 = 0;
-    while u < v {
-        if touches_register(variables, part, register, u)
-            & (own | pulls_trigger(variables, part, u))
-        {
-            return u;
+    match shared {
+        Shared::Bit => {
+            holds_bit(variables, part, number, v) & holds_bit(variables, part, number, u)
         }
-        u += 1;
-    }
-    u
-}
-
-// The variable that holds bit b of register i, or their count.
-fn holder_of(variables: &[u32], part: Part, i: u32, b: u32) -> u32
-    ensures { λ r. ⌜ r ≡ holderOf (now (variables .entry)) part i b ⌝ }
-{
-    let n = word(variables, 0) as u32;
-    holder_below(variables, n, part, 32 * (i as usize) + b as usize)
-}
-
-// How many of a register's first `left` bits, from the highest down, one variable holds.
-pub fn run_below(variables: &[u32], i: u32, part: Part, left: u32) -> u32
-    ensures { λ r. ⌜ r ≡ runBelow (now (variables .entry)) i part left ⌝ }
-{
-    if left == 0 {
-        return 0;
-    }
-    let first = holder_of(variables, part, i, left - 1);
-    let mut k: u32 = 0;
-    while k < left {
-        if holder_of(variables, part, i, left - 1 - k) != first {
-            return k;
+        Shared::Register => {
+            touches_register(variables, part, number, v)
+                & touches_register(variables, part, number, u)
+                & (pulls_trigger(variables, part, v) | pulls_trigger(variables, part, u))
         }
-        k += 1;
     }
-    k
-}
-
-fn same_holders(variables: &[u32], i: u32) -> bool
-    ensures { λ r. ⌜ r ≡ sameHolders (now (variables .entry)) i ⌝ }
-{
-    let mut ok = true;
-    let mut b: u32 = 0;
-    while b < 8 {
-        ok = ok
-            & (holder_of(variables, Part::Read, i, b) == holder_of(variables, Part::Write, i, b));
-        b += 1;
-    }
-    ok
-}
-
-// Are both parts of a register alike, its place, its mask and who holds its bits?
-pub fn same_register(registers: &[u32], variables: &[u32], i: u32) -> bool
-    ensures { λ r. ⌜ r ≡ sameRegister (now (registers .entry)) (now (variables .entry)) i ⌝ }
-{
-    let read = register_part(i, Part::Read);
-    let write = register_part(i, Part::Write);
-    alike_words(registers, read, write, 6) & same_holders(variables, i)
 }

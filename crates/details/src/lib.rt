@@ -4,3 +4,5 @@ pub mod entries;
 pub mod holders;
 pub mod judged;
 pub mod places;
+pub mod rows;
+pub mod search;

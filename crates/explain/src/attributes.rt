@@ -2,15 +2,14 @@
 use crate::parts::last;
 use crate::write::purpose;
 use crate::write::write;
-use details::entries::variable_part;
+use details::entries::variable_has;
 use details::places::opening;
 use syntax::Step;
 use tables::Part;
-use tables::words::word;
 
 // How often a part is made a trigger: by its own attribute, and by a bare one.
 fn show_trigger(variables: &[u32], own: u8, bare: u8, part: Part) {
-    let present = word(variables, variable_part(last(variables), part)) == 1;
+    let present = variable_has(variables, last(variables), part);
     if present & (1 < (own as u32) + (bare as u32)) {
         write(b"two triggers");
         purpose(part);
@@ -26,7 +25,7 @@ fn show_trigger(variables: &[u32], own: u8, bare: u8, part: Part) {
 fn show_volatile(variables: &[u32], times: u8) {
     if 1 < times {
         write(b"`volatile` stands twice\n");
-    } else if (0 < times) & (word(variables, variable_part(last(variables), Part::Read)) != 1) {
+    } else if (0 < times) & !variable_has(variables, last(variables), Part::Read) {
         write(b"`volatile` speaks of reading, and there are no bits for it\n");
     }
 }

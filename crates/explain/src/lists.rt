@@ -6,33 +6,33 @@ use crate::write::purpose;
 use crate::write::quoted;
 use crate::write::write;
 use details::broken::first_bare;
-use details::broken::first_pulled;
-use details::broken::first_taken;
+use details::broken::first_shared;
 use details::entries::parameter_width;
 use details::entries::register_name;
-use details::entries::register_named_at;
 use details::entries::register_place;
 use details::entries::register_width;
+use details::entries::variable_has;
 use details::entries::variable_name;
 use details::entries::variable_part;
 use details::entries::variable_place;
 use details::entries::variable_width;
-use details::holders::beside_below;
-use details::holders::holder_below;
+use details::holders::Shared;
 use details::holders::pulls_trigger;
+use details::search::Test;
+use details::search::first_in;
 use rules::words::narrow;
 use tables::Part;
 use tables::pieces::bit_count;
-use tables::words::word;
 
 // 14: bit 4 of `r` is mapped already by `v` for reading
 fn show_taken(text: &[u8], registers: &[u32], variables: &[u32], part: Part) {
     let v = last(variables);
-    let bit = first_taken(variables, v, part);
+    let bit = first_shared(variables, v, part, Shared::Bit);
     if bit < 2048 {
+        let u = first_in(variables, Test::Shares(v, part, Shared::Bit, bit));
         show_bit(text, registers, bit);
         write(b" is mapped already by ");
-        quoted(variable_name(text, variables, holder_below(variables, v, part, bit)));
+        quoted(variable_name(text, variables, u));
         purpose(part);
         write(b"\n");
     }
@@ -41,9 +41,9 @@ fn show_taken(text: &[u8], registers: &[u32], variables: &[u32], part: Part) {
 // 15: `r` holds bits of `v`, a trigger, and of `w` for reading
 fn show_pulled(text: &[u8], registers: &[u32], variables: &[u32], part: Part) {
     let v = last(variables);
-    let register = first_pulled(variables, v, part);
+    let register = first_shared(variables, v, part, Shared::Register);
     if register < 64 {
-        let u = beside_below(variables, v, part, register);
+        let u = first_in(variables, Test::Shares(v, part, Shared::Register, register));
         quoted(register_name(text, registers, narrow(register)));
         write(b" holds bits of ");
         show_puller(text, variables, u, part);
@@ -65,7 +65,7 @@ fn show_puller(text: &[u8], variables: &[u32], v: u32, part: Part) {
 fn show_bare(text: &[u8], registers: &[u32], variables: &[u32], i: u32, part: Part) {
     let b = first_bare(registers, variables, i, part);
     if b < 8 {
-        show_bit(text, registers, 32 * (i as usize) + b);
+        show_bit(text, registers, 32 * (i as usize) + b as usize);
         write(b" is mapped by no variable");
         purpose(part);
         write(b"\n");
@@ -82,7 +82,7 @@ fn show_width(width: usize) {
 fn show_bits_of(variables: &[u32], v: u32, part: Part, words: &[u8]) {
     let at = variable_part(v, part);
     if at < 4294967296 {
-        if word(variables, at) == 1 {
+        if variable_has(variables, v, part) {
             write(words);
             number(bit_count(variables, at));
         }
@@ -118,7 +118,7 @@ fn show_late(text: &[u8], registers: &[u32], variables: &[u32], rule: u32, place
         show_pulled(text, registers, variables, Part::Read);
         show_pulled(text, registers, variables, Part::Write);
     } else {
-        let i = register_named_at(registers, place);
+        let i = first_in(registers, Test::Named(place));
         show_bare(text, registers, variables, i, Part::Read);
         show_bare(text, registers, variables, i, Part::Write);
     }
@@ -133,7 +133,7 @@ pub fn show_lists(
     place: usize,
 ) {
     if rule == 11 {
-        crate::pieces::show_pieces(text, registers, variables, place);
+        crate::pieces::show_pieces(text, parameters, registers, variables, place);
     } else if rule == 12 {
         show_widths(parameters, registers, variables, place);
     } else if rule == 13 {

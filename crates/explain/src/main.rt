@@ -1,6 +1,7 @@
 // A description, explained to the person who writes it. A refused one: where, which rule in plain words, what breaks it, and the line with a caret. An accepted
 // one: a map of its registers and variables. It reads as many bytes as tell a description that is too long.
 mod attributes;
+mod each;
 mod expected;
 mod lists;
 mod map;

@@ -1,31 +1,26 @@
 // The map of an accepted description: its parameters, a row of eight cells for each register, and its variables.
-use crate::parts::count;
-use crate::parts::has_part;
+use crate::parts::Entry;
+use crate::parts::show_offsets;
 use crate::parts::show_place;
-use crate::parts::show_ranges;
 use crate::row::show_row;
-use crate::summary::show_variables;
+use crate::summary::show_variable;
 use crate::write::column;
 use crate::write::write;
+use details::entries::count_of;
 use details::entries::parameter_name;
+use details::entries::register_has;
 use details::entries::register_name;
 use details::entries::same_place;
-use details::holders::same_register;
+use details::rows::same_register;
 use rules::Judging;
 use rules::names::name_of;
 use tables::Part;
 
-fn show_parameters(text: &[u8], parameters: &[u32]) {
-    let n = count(parameters);
-    let mut i: u32 = 0;
-    while i < n {
-        write(b"  ");
-        column(parameter_name(text, parameters, i), 12);
-        write(b"offsets ");
-        show_ranges(parameters, i);
-        write(b"\n");
-        i += 1;
-    }
+fn show_parameter(text: &[u8], parameters: &[u32], i: u32) {
+    write(b"  ");
+    column(parameter_name(text, parameters, i), 12);
+    show_offsets(parameters, i);
+    write(b"\n");
 }
 
 // One row serves both parts where they are alike.
@@ -34,18 +29,18 @@ fn show_rows(text: &[u8], registers: &[u32], variables: &[u32], i: u32) {
         show_row(text, registers, variables, i, Part::Read, b"  r w |");
         return;
     }
-    if has_part(registers, i, Part::Read) {
+    if register_has(registers, i, Part::Read) {
         show_row(text, registers, variables, i, Part::Read, b"  r   |");
     }
-    if has_part(registers, i, Part::Write) {
+    if register_has(registers, i, Part::Write) {
         show_row(text, registers, variables, i, Part::Write, b"    w |");
     }
 }
 
 // high: base @ 0
 fn show_places(text: &[u8], parameters: &[u32], registers: &[u32], i: u32) {
-    let read = has_part(registers, i, Part::Read);
-    let write_part = has_part(registers, i, Part::Write);
+    let read = register_has(registers, i, Part::Read);
+    let write_part = register_has(registers, i, Part::Write);
     write(register_name(text, registers, i));
     write(b": ");
     if same_place(registers, i) {
@@ -66,12 +61,36 @@ fn show_places(text: &[u8], parameters: &[u32], registers: &[u32], i: u32) {
     write(b"\n");
 }
 
-fn show_registers(text: &[u8], parameters: &[u32], registers: &[u32], variables: &[u32]) {
-    let n = count(registers);
+fn show_entry(
+    text: &[u8],
+    parameters: &[u32],
+    registers: &[u32],
+    variables: &[u32],
+    entry: Entry,
+    i: u32,
+) {
+    match entry {
+        Entry::Parameter => show_parameter(text, parameters, i),
+        Entry::Register => {
+            show_places(text, parameters, registers, i);
+            show_rows(text, registers, variables, i);
+        }
+        Entry::Variable => show_variable(text, parameters, registers, variables, i),
+    }
+}
+
+// The first n entries of a table.
+fn show_entries(
+    text: &[u8],
+    parameters: &[u32],
+    registers: &[u32],
+    variables: &[u32],
+    entry: Entry,
+    n: u32,
+) {
     let mut i: u32 = 0;
     while i < n {
-        show_places(text, parameters, registers, i);
-        show_rows(text, registers, variables, i);
+        show_entry(text, parameters, registers, variables, entry, i);
         i += 1;
     }
 }
@@ -86,12 +105,36 @@ pub fn show_map(
     write(b"\ndevice ");
     write(name_of(text, judging.place, judging.extent));
     write(b"\n");
-    show_parameters(text, parameters);
+    let first = count_of(parameters);
+    show_entries(
+        text,
+        parameters,
+        registers,
+        variables,
+        Entry::Parameter,
+        first,
+    );
     write(b"\nregisters  7          6          5          4");
     write(b"          3          2          1          0\n");
-    show_registers(text, parameters, registers, variables);
-    if 0 < count(variables) {
+    let second = count_of(registers);
+    show_entries(
+        text,
+        parameters,
+        registers,
+        variables,
+        Entry::Register,
+        second,
+    );
+    let third = count_of(variables);
+    if 0 < third {
         write(b"\nvariables\n");
-        show_variables(text, parameters, registers, variables);
+        show_entries(
+            text,
+            parameters,
+            registers,
+            variables,
+            Entry::Variable,
+            third,
+        );
     }
 }

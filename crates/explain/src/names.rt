@@ -1,4 +1,5 @@
 // Refusals 6 and 7: the name, and what it is declared as, if it is.
+use crate::parts::Entry;
 use crate::write::number_from_one;
 use crate::write::quoted;
 use crate::write::write;
@@ -23,48 +24,28 @@ fn show_as(text: &[u8], name: &[u8], kind: &[u8], place: usize) {
     write(b"\n");
 }
 
-fn is_parameter(text: &[u8], parameters: &[u32], name: &[u8]) -> bool {
-    let found = find(text, parameters, 36, name);
-    match found {
-        Found::At(i) => {
-            show_as(
-                text,
-                name,
-                b" is a parameter",
-                parameter_place(parameters, narrow(i)),
-            );
-            true
-        }
-        Found::Nothing => false,
+fn show_entry_as(text: &[u8], table: &[u32], entry: Entry, name: &[u8], i: u32) {
+    match entry {
+        Entry::Parameter => show_as(text, name, b" is a parameter", parameter_place(table, i)),
+        Entry::Register => show_as(text, name, b" is a register", register_place(table, i)),
+        Entry::Variable => show_as(text, name, b" is a variable", variable_place(table, i)),
     }
 }
 
-fn is_register(text: &[u8], registers: &[u32], name: &[u8]) -> bool {
-    let found = find(text, registers, 15, name);
-    match found {
-        Found::At(i) => {
-            show_as(
-                text,
-                name,
-                b" is a register",
-                register_place(registers, narrow(i)),
-            );
-            true
-        }
-        Found::Nothing => false,
+fn find_entry(text: &[u8], table: &[u32], entry: Entry, name: &[u8]) -> Found {
+    match entry {
+        Entry::Parameter => find(text, table, 36, name),
+        Entry::Register => find(text, table, 15, name),
+        Entry::Variable => find(text, table, 59, name),
     }
 }
 
-fn is_variable(text: &[u8], variables: &[u32], name: &[u8]) -> bool {
-    let found = find(text, variables, 59, name);
+// Has an entry of this table the name? It is shown, if so.
+fn is_entry(text: &[u8], table: &[u32], entry: Entry, name: &[u8]) -> bool {
+    let found = find_entry(text, table, entry, name);
     match found {
-        Found::At(v) => {
-            show_as(
-                text,
-                name,
-                b" is a variable",
-                variable_place(variables, narrow(v)),
-            );
+        Found::At(i) => {
+            show_entry_as(text, table, entry, name, narrow(i));
             true
         }
         Found::Nothing => false,
@@ -99,9 +80,9 @@ pub fn show_name(
 ) {
     let name = name_at(text, place);
     let one = is_device(text, judging, name);
-    let two = is_parameter(text, parameters, name);
-    let three = is_register(text, registers, name);
-    let four = is_variable(text, variables, name);
+    let two = is_entry(text, parameters, Entry::Parameter, name);
+    let three = is_entry(text, registers, Entry::Register, name);
+    let four = is_entry(text, variables, Entry::Variable, name);
     if !(one | two | three | four) {
         quoted(name);
         write(b" is not declared before this\n");

@@ -2,29 +2,27 @@
 use crate::write::number;
 use crate::write::quoted;
 use crate::write::write;
+use details::entries::count_of;
 use details::entries::parameter_name;
 use details::entries::range_count;
 use details::entries::range_high;
 use details::entries::range_low;
 use details::entries::register_name;
-use details::entries::register_part;
+use details::entries::register_word;
 use rules::words::narrow;
 use tables::Part;
-use tables::words::word;
 
-// How many entries a table counts.
-pub fn count(table: &[u32]) -> u32 {
-    narrow(word(table, 0))
+// The three tables of entries.
+pub enum Entry {
+    Parameter,
+    Register,
+    Variable,
 }
 
 // The entry that was written last.
 pub fn last(table: &[u32]) -> u32 {
-    let n = count(table);
+    let n = count_of(table);
     if 0 < n { n - 1 } else { 0 }
-}
-
-pub fn has_part(registers: &[u32], i: u32, part: Part) -> bool {
-    word(registers, register_part(i, part)) == 1
 }
 
 // 0..3
@@ -39,7 +37,7 @@ pub fn show_range(parameters: &[u32], i: u32, k: u32) {
 }
 
 // 0..3, 8
-pub fn show_ranges(parameters: &[u32], i: u32) {
+fn show_ranges(parameters: &[u32], i: u32) {
     let n = range_count(parameters, i);
     let mut k: u32 = 0;
     while k < n {
@@ -51,12 +49,23 @@ pub fn show_ranges(parameters: &[u32], i: u32) {
     }
 }
 
+// offsets 0..3, 8; or offset 0, where there is but one
+pub fn show_offsets(parameters: &[u32], i: u32) {
+    let alone = range_low(parameters, i, 0) == range_high(parameters, i, 0);
+    if alone & (range_count(parameters, i) == 1) {
+        write(b"offset ");
+    } else {
+        write(b"offsets ");
+    }
+    show_ranges(parameters, i);
+}
+
 // base @ 0
 pub fn show_place(text: &[u8], parameters: &[u32], registers: &[u32], i: u32, part: Part) {
-    let at = register_part(i, part);
-    write(parameter_name(text, parameters, narrow(word(registers, at + 1))));
+    let parameter = narrow(register_word(registers, i, part, 1));
+    write(parameter_name(text, parameters, parameter));
     write(b" @ ");
-    number(word(registers, at + 2));
+    number(register_word(registers, i, part, 2));
 }
 
 // bit 3 of `status`, by the bit's number

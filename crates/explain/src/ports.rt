@@ -1,18 +1,18 @@
 // Refusals 8, 9 and 10: offsets, ports and masks, and places that are taken.
-use crate::parts::has_part;
 use crate::parts::last;
+use crate::parts::show_offsets;
 use crate::parts::show_place;
 use crate::parts::show_range;
-use crate::parts::show_ranges;
 use crate::write::number;
 use crate::write::purpose;
 use crate::write::quoted;
 use crate::write::write;
-use details::broken::first_misfit;
-use details::broken::served_before;
 use details::entries::parameter_name;
+use details::entries::register_has;
 use details::entries::register_name;
 use details::places::opening;
+use details::search::Test;
+use details::search::first_in;
 use expression::Worth;
 use rules::names::find;
 use rules::names::index_of;
@@ -28,7 +28,7 @@ use tables::parameters::offset_in;
 fn show_misfit(text: &[u8], parameters: &[u32]) {
     let i = last(parameters);
     write(b"the range ");
-    show_range(parameters, i, first_misfit(parameters, i));
+    show_range(parameters, i, first_in(parameters, Test::Misfit(i)));
     write(b" of ");
     quoted(parameter_name(text, parameters, i));
     write(b" goes down, or past 255\n");
@@ -71,24 +71,24 @@ fn show_worth(worth: Worth) {
 }
 
 // the offset is 4; `base` has the offsets 0..3
-fn show_offset(text: &[u8], parameters: &[u32], port: Port) {
+fn show_unplaced(text: &[u8], parameters: &[u32], port: Port) {
     let i = port_parameter(text, parameters, port);
     let worth = port.worth;
     show_worth(worth);
     write(b"; ");
     quoted(parameter_name(text, parameters, i));
-    write(b" has the offsets ");
-    show_ranges(parameters, i);
+    write(b" has the ");
+    show_offsets(parameters, i);
     write(b"\n");
 }
 
-fn show_offsets(text: &[u8], parameters: &[u32], register: Register) {
+fn show_offset(text: &[u8], parameters: &[u32], register: Register) {
     let first = register.first;
     let second = register.second;
     if is_placed(text, parameters, first) {
-        show_offset(text, parameters, second);
+        show_unplaced(text, parameters, second);
     } else {
-        show_offset(text, parameters, first);
+        show_unplaced(text, parameters, first);
     }
 }
 
@@ -118,8 +118,8 @@ fn show_pairing(register: Register) {
 // base @ 0 serves `high` already for reading
 fn show_served(text: &[u8], parameters: &[u32], registers: &[u32], part: Part) {
     let i = last(registers);
-    let j = served_before(registers, i, part);
-    if has_part(registers, i, part) & (j < i) {
+    let j = first_in(registers, Test::Serves(i, part));
+    if register_has(registers, i, part) & (j < i) {
         show_place(text, parameters, registers, i, part);
         write(b" serves ");
         quoted(register_name(text, registers, j));
@@ -137,7 +137,7 @@ pub fn show_ports(text: &[u8], parameters: &[u32], registers: &[u32], rule: u32,
     } else if open < text.len() {
         let register = syntax::register_after(text, Step::At(open));
         if rule == 8 {
-            show_offsets(text, parameters, register);
+            show_offset(text, parameters, register);
         } else {
             show_pairing(register);
         }

@@ -1,15 +1,14 @@
 // A register's part as a row of cells, bit 7 first: the variable that holds a run of bits, or what the mask says of a bit.
 ghost use Prim.Native.Nat.{_-_, _≤_};
-use crate::parts::count;
 use crate::write::times;
 use crate::write::write;
-use details::entries::register_part;
+use details::entries::count_of;
+use details::entries::register_word;
 use details::entries::variable_name;
-use details::holders::holder_below;
-use details::holders::run_below;
+use details::rows::holder_of;
+use details::rows::run_below;
 use rules::names::name_of;
 use tables::Part;
-use tables::words::word;
 
 // A name in so many columns, cut where it is longer.
 fn show_cell(name: &[u8], columns: usize) {
@@ -28,10 +27,9 @@ fn show_cell(name: &[u8], columns: usize) {
 
 // A bit that no variable holds: `0`, `1` or `*`.
 fn show_fixed(registers: &[u32], i: u32, part: Part, b: usize) {
-    let at = register_part(i, part);
-    if bits::bit_of(word(registers, at + 5), b) {
+    if bits::bit_of(register_word(registers, i, part, 5), b) {
         write(b"    1     |");
-    } else if bits::bit_of(word(registers, at + 4), b) {
+    } else if bits::bit_of(register_word(registers, i, part, 4), b) {
         write(b"    0     |");
     } else {
         write(b"    *     |");
@@ -64,10 +62,9 @@ fn show_next(
     part: Part,
     left: u32,
 ) -> u32 {
-    let n = count(variables);
     let top = if 0 < left { left - 1 } else { 0 };
-    let v = holder_below(variables, n, part, 32 * (i as usize) + top as usize);
-    if v < n {
+    let v = holder_of(variables, part, i, top);
+    if v < count_of(variables) {
         let run = run_below(variables, i, part, left);
         show_cell(variable_name(text, variables, v), cell_columns(run));
         run

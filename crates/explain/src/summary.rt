@@ -1,27 +1,21 @@
 // The variables: type, bits and accesses of each part, and what is special about it.
-use crate::parts::count;
-use crate::parts::show_place;
+use crate::each::Shown;
+use crate::each::show_each;
 use crate::write::column;
 use crate::write::fill;
 use crate::write::number;
 use crate::write::times;
 use crate::write::write;
 use details::entries::piece_count;
-use details::entries::piece_of;
-use details::entries::register_name;
 use details::entries::same_parts;
+use details::entries::variable_has;
 use details::entries::variable_kind;
 use details::entries::variable_name;
-use details::entries::variable_part;
 use details::entries::variable_volatile;
 use details::entries::variable_width;
-use details::holders::mentioned_before;
 use details::holders::pulls_trigger;
 use rules::words::choose;
-use rules::words::narrow;
 use tables::Part;
-use tables::Piece;
-use tables::words::word;
 
 fn show_type(variables: &[u32], v: u32) {
     let kind = variable_kind(variables, v);
@@ -35,57 +29,6 @@ fn show_type(variables: &[u32], v: u32) {
     write(b"int(");
     number(variable_width(variables, v));
     write(b")");
-}
-
-// high[3..0], or high where it is whole
-fn show_piece(text: &[u8], registers: &[u32], piece: Piece) {
-    write(register_name(text, registers, narrow(piece.register)));
-    if (piece.high == 7) & (piece.low == 0) {
-        return;
-    }
-    write(b"[");
-    number(piece.high);
-    if piece.low != piece.high {
-        write(b"..");
-        number(piece.low);
-    }
-    write(b"]");
-}
-
-fn show_pieces(text: &[u8], registers: &[u32], variables: &[u32], v: u32, part: Part) {
-    let n = piece_count(variables, v, part);
-    let mut k: u32 = 0;
-    while k < n {
-        if 0 < k {
-            write(b" # ");
-        }
-        let piece = piece_of(variables, v, part, k);
-        show_piece(text, registers, piece);
-        k += 1;
-    }
-}
-
-// base @ 0, base @ 1: each register once, in order of first mention
-fn show_accesses(
-    text: &[u8],
-    parameters: &[u32],
-    registers: &[u32],
-    variables: &[u32],
-    v: u32,
-    part: Part,
-) {
-    let n = piece_count(variables, v, part);
-    let mut k: u32 = 0;
-    while k < n {
-        if !mentioned_before(variables, v, part, k) {
-            if 0 < k {
-                write(b", then ");
-            }
-            let piece = piece_of(variables, v, part, k);
-            show_place(text, parameters, registers, narrow(piece.register), part);
-        }
-        k += 1;
-    }
 }
 
 // How wide `show_type` writes.
@@ -134,10 +77,18 @@ fn show_part(
     label: &[u8],
 ) {
     write(label);
-    show_pieces(text, registers, variables, v, part);
+    show_each(text, parameters, registers, variables, v, part, Shown::Bits);
     show_gap(variables, v, part);
     write(b"(");
-    show_accesses(text, parameters, registers, variables, v, part);
+    show_each(
+        text,
+        parameters,
+        registers,
+        variables,
+        v,
+        part,
+        Shown::Access,
+    );
     write(b")");
 }
 
@@ -168,21 +119,17 @@ fn show_write(text: &[u8], parameters: &[u32], registers: &[u32], variables: &[u
     write(b"\n");
 }
 
-fn is_present(variables: &[u32], v: u32, part: Part) -> bool {
-    word(variables, variable_part(v, part)) == 1
-}
-
 // One line where both parts are alike; the second of two starts under the first.
 fn show_parts(text: &[u8], parameters: &[u32], registers: &[u32], variables: &[u32], v: u32) {
     if same_parts(variables, v) {
         show_read(text, parameters, registers, variables, v, b"r w  ");
         return;
     }
-    let read = is_present(variables, v, Part::Read);
+    let read = variable_has(variables, v, Part::Read);
     if read {
         show_read(text, parameters, registers, variables, v, b"r    ");
     }
-    if is_present(variables, v, Part::Write) {
+    if variable_has(variables, v, Part::Write) {
         if read {
             times(b" ", 32);
         }
@@ -190,14 +137,15 @@ fn show_parts(text: &[u8], parameters: &[u32], registers: &[u32], variables: &[u
     }
 }
 
-pub fn show_variables(text: &[u8], parameters: &[u32], registers: &[u32], variables: &[u32]) {
-    let n = count(variables);
-    let mut v: u32 = 0;
-    while v < n {
-        column(variable_name(text, variables, v), 16);
-        show_type(variables, v);
-        fill(type_columns(variables, v), 16);
-        show_parts(text, parameters, registers, variables, v);
-        v += 1;
-    }
+pub fn show_variable(
+    text: &[u8],
+    parameters: &[u32],
+    registers: &[u32],
+    variables: &[u32],
+    v: u32,
+) {
+    column(variable_name(text, variables, v), 16);
+    show_type(variables, v);
+    fill(type_columns(variables, v), 16);
+    show_parts(text, parameters, registers, variables, v);
 }

@@ -1,4 +1,4 @@
--- `details::holders::run_below` meets its contract.
+-- `details::rows::run_below` meets its contract.
 use Rattle.details.proofs.HolderLaws.{first-zero}
 use borrow.Author.Needs.{needs}
 use Prim.Native.Nat.{_-_, _≤_}
@@ -9,9 +9,9 @@ use lib.Dec.{eqb}
 use Rattle.tables.specs.Every.{firstOf}
 use Rattle.tables.proofs.Laws.{first-none, first-more, first-stop, first-end}
 use borrow.Author.Tests.{eq-eqb, ne-eqb}
-use Rattle.details.specs.Holders.{holderOf, runBelow}
-use Rattle.details.proofs.holders.run_below.Statement.{statement}
-use Rattle.details.proofs.holders.run_below.Tie as tie
+use Rattle.details.specs.Rows.{holderOf, runBelow}
+use Rattle.details.proofs.rows.run_below.Statement.{statement}
+use Rattle.details.proofs.rows.run_below.Tie as tie
 
 abbrev Inv-loop : tie.InvT-loop
 Inv-loop variables i part left first k₀ k = (k ≤ left) × (firstOf k (λ j. not (eqb (holderOf variables part i (left - 1 - j)) (holderOf variables part i (left - 1)))) ≡ k)

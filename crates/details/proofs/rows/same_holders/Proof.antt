@@ -1,4 +1,4 @@
--- `details::holders::same_holders` meets its contract.
+-- `details::rows::same_holders` meets its contract.
 use borrow.Author.Needs.{needs}
 use Prim.Native.Nat.{_-_, _≤_}
 use native.Mathlib.Omega.{arith}
@@ -6,10 +6,10 @@ use mathlib.Core.Path.{_≡_, sym, ap₂}
 use lib.Dec.{eqb}
 use Rattle.tables.specs.Every.{every}
 use Rattle.tables.proofs.Laws.{every-none, gathers, gathered}
-use Rattle.details.specs.Holders.{holderOf, sameHolders}
+use Rattle.details.specs.Rows.{holderOf, sameHolders}
 use Rattle.tables.specs.declared.Part.the-variants.{Read, Write}
-use Rattle.details.proofs.holders.same_holders.Statement.{statement}
-use Rattle.details.proofs.holders.same_holders.Tie as tie
+use Rattle.details.proofs.rows.same_holders.Statement.{statement}
+use Rattle.details.proofs.rows.same_holders.Tie as tie
 
 abbrev Inv-loop : tie.InvT-loop
 Inv-loop variables i ok₀ b₀ ok b = (b ≤ 8) × (ok ≡ every b (λ k. eqb (holderOf variables Read i k) (holderOf variables Write i k)))

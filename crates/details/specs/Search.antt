@@ -1,0 +1,51 @@
+-- Searches: in a table, the first entry, piece or bit that passes a test.
+use Prim.Native.Nat.{ℕ}
+use mathlib.Core.Bool.{Bool, _&&_, not}
+use mathlib.Core.List.{List}
+use lib.Dec.{eqb, leb}
+use lib.ListN.{getD}
+use Rattle.bits.specs.Bits.{bit}
+use Rattle.tables.specs.Every.{firstOf}
+use Rattle.tables.specs.Tables.{countOf, rangeCount, rangeOf, registerAt, registerPartOf, variablePartOf}
+use Rattle.tables.specs.Rules.{rangeFits, serves}
+use Rattle.tables.specs.Scan.{overlap}
+use Rattle.tables.specs.declared.Part.{Part}
+use Rattle.tables.specs.View.{partNo}
+use Rattle.details.specs.declared.search.Test.{Test}
+use Rattle.details.specs.declared.search.Test.the-variants.{Misfit, Named, Serves, Undotted, Overlaps, Holds, Shares}
+use Rattle.details.specs.Holders.{holds, shareIn}
+
+-- 10: register j has the place of register i in a part
+abbrev pub servesWith : List ℕ → ℕ → Part → ℕ → Bool
+servesWith rs i part j = serves (registerPartOf rs (partNo part) j) (registerPartOf rs (partNo part) i .parameter) (registerPartOf rs (partNo part) i .offset)
+
+-- 11: bit b lies from low to high and is no dot; pieces j and k of a part share a bit
+abbrev pub undotted : List ℕ → ℕ → Part → ℕ → ℕ → ℕ → Bool
+undotted rs i part low high b = leb low b && leb b high && not (bit b (registerPartOf rs (partNo part) i .dots))
+
+abbrev pub overlapsAt : List ℕ → ℕ → Part → ℕ → ℕ → Bool
+overlapsAt vs v part k j = overlap (variablePartOf vs (partNo part) v .piece j) (variablePartOf vs (partNo part) v .piece k)
+
+-- how many numbers are tried, from 0 up: ranges, registers, bits, pieces or variables
+abbrev pub limit : List ℕ → Test → ℕ
+limit ps (Misfit i) = rangeCount ps i
+limit rs (Named place) = countOf rs
+limit rs (Serves i part) = i
+limit rs (Undotted i part low high) = 8
+limit vs (Overlaps v part k) = k
+limit vs (Holds part number) = countOf vs
+limit vs (Shares v part shared number) = v
+
+-- a number passes a test
+abbrev pub passes : List ℕ → Test → ℕ → Bool
+passes ps (Misfit i) k = not (rangeFits (rangeOf ps i k))
+passes rs (Named place) i = eqb (getD rs (registerAt i) 0) place
+passes rs (Serves i part) j = servesWith rs i part j
+passes rs (Undotted i part low high) b = undotted rs i part low high b
+passes vs (Overlaps v part k) j = overlapsAt vs v part k j
+passes vs (Holds part number) v = holds vs part number v
+passes vs (Shares v part shared number) u = shareIn vs v part shared number u
+
+-- the first that passes, or how many were tried where none does
+unfoldable pub firstIn : List ℕ → Test → ℕ
+firstIn t test = firstOf (limit t test) (passes t test)

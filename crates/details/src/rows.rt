@@ -1,0 +1,52 @@
+// What a row of the map shows: runs of bits that one variable holds, and whether one row serves both parts of a register.
+ghost use mathlib.Core.Path.{_≡_};
+ghost use Rattle.details.specs.Rows.{holderOf, runBelow, sameHolders, sameRegister};
+use crate::entries::alike_parts;
+use crate::search::Test;
+use crate::search::first_in;
+use tables::Part;
+
+// The variable that holds bit b of register i, or their count.
+pub fn holder_of(variables: &[u32], part: Part, i: u32, b: u32) -> u32
+    ensures { λ r. ⌜ r ≡ holderOf (now (variables .entry)) part i b ⌝ }
+{
+    first_in(variables, Test::Holds(part, 32 * (i as usize) + b as usize))
+}
+
+// How many of a register's first `left` bits, from the highest down, one variable holds.
+pub fn run_below(variables: &[u32], i: u32, part: Part, left: u32) -> u32
+    ensures { λ r. ⌜ r ≡ runBelow (now (variables .entry)) i part left ⌝ }
+{
+    if left == 0 {
+        return 0;
+    }
+    let first = holder_of(variables, part, i, left - 1);
+    let mut k: u32 = 0;
+    while k < left {
+        if holder_of(variables, part, i, left - 1 - k) != first {
+            return k;
+        }
+        k += 1;
+    }
+    k
+}
+
+fn same_holders(variables: &[u32], i: u32) -> bool
+    ensures { λ r. ⌜ r ≡ sameHolders (now (variables .entry)) i ⌝ }
+{
+    let mut ok = true;
+    let mut b: u32 = 0;
+    while b < 8 {
+        ok = ok
+            & (holder_of(variables, Part::Read, i, b) == holder_of(variables, Part::Write, i, b));
+        b += 1;
+    }
+    ok
+}
+
+// Are both parts of a register alike, its place, its mask and who holds its bits?
+pub fn same_register(registers: &[u32], variables: &[u32], i: u32) -> bool
+    ensures { λ r. ⌜ r ≡ sameRegister (now (registers .entry)) (now (variables .entry)) i ⌝ }
+{
+    alike_parts(registers, 15 * (i as usize) + 4, 6, 6) & same_holders(variables, i)
+}
