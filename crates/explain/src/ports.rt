@@ -14,6 +14,7 @@ use details::places::opening;
 use details::search::Test;
 use details::search::first_in;
 use expression::Worth;
+use rules::modifiers::are_paired;
 use rules::names::find;
 use rules::names::index_of;
 use rules::names::name_of;
@@ -105,9 +106,7 @@ fn show_masks(masks: Masks) {
 fn show_pairing(register: Register) {
     let first = register.first;
     let second = register.second;
-    let paired = ((first.mark == 1) & (second.mark == 2))
-        | ((first.mark == 2) & (second.mark == 1));
-    if register.two & !paired {
+    if !are_paired(!register.two, first.mark, second.mark) {
         write(b"of two ports, one is for `read` and the other for `write`\n");
     } else {
         let masks = register.masks;

@@ -26,13 +26,14 @@ use Rattle.tables.specs.Marks.{downFrom, joined, has, meets, distinct}
 use Rattle.tables.specs.Rules.{rangesFit, parameterFault, offsetIn, placed, placeTaken, registerFault, onDots, pieceFits, partMaps, widthFits, typeFits, volatileFits, ownFault, mappedBefore, triggerShared, variableFault, covered}
 use Rattle.tables.specs.View.{registerCount, registerWidth, registerHas, parameterOf, offsetOf, isDot, isOne, variableCount, kindOf, variableHas, bitsOf, size, placeOf, without, mentions, registersOf}
 use Rattle.rules.specs.Fault.{noFault, faultIf, only, isFault, orElse}
-use Rattle.rules.specs.Lists.{pieceNamed, unknownIn, pieceWords, piecesOn, paired, allHave, listFor, partWords}
+use Rattle.rules.specs.Lists.{pieceNamed, unknownIn, pieceWords, piecesOn, allHave, listFor, partWords}
 use Rattle.rules.specs.Mask.{isElement, maskText, elements, maskOf}
+use Rattle.rules.specs.Modifiers.{arePaired, atMostOne}
 use Rattle.rules.specs.Names.{standsAt, isNamed, heldOf, foundBelow, foundIn, isNothing, indexOf, isDeclared, declaredBefore}
 use Rattle.rules.specs.Parameter.{judgeDevice, parameterEntry, addedParameter, judgeParameter}
-use Rattle.rules.specs.Register.{isNatural, naturalOf, isPaired, hasPart, isMasked, masksKept, portOf, partMask, partEntry, portFound, partWords as partWords-of-register, registerEntry, unknownPort, badOffset, registerWritten, addedRegister, judgeRegister}
+use Rattle.rules.specs.Register.{isNatural, naturalOf, hasPart, masksKept, portOf, partMask, partEntry, portFound, partWords as partWords-of-register, registerEntry, unknownPort, badOffset, registerWritten, addedRegister, judgeRegister}
 use Rattle.rules.specs.State.{unlessStopped, stopped, unlessBroken, withParameters, withRegisters, withVariables}
-use Rattle.rules.specs.Variable.{flagOf, triggers, headWords, withVariable, badTrigger, badBehaviours, lowest, nameFault, earlyFault, lateNumber, addedVariable, judgeVariable}
+use Rattle.rules.specs.Variable.{flagOf, triggers, headWords, withVariable, badBehaviours, lowest, nameFault, earlyFault, lateNumber, addedVariable, judgeVariable}
 use Rattle.rules.specs.Words.{wordOf as wordOf-of-words, written, appended}
 use Rattle.loader.specs.Judge.{judge}
 use Rattle.loader.specs.Load.{isShort, isLong, beginning, judged, firstUncovered, judgedAs, onceRead, verdictOf, isAccepted, leftBy, laidOver, loadOf}
@@ -67,7 +68,7 @@ entries = tt
 
 -- the rules of one declaration
 unfoldable pub rules : Unit {0}
-unfolding noFault faultIf only isFault orElse pieceNamed unknownIn pieceWords piecesOn paired allHave listFor partWords isElement maskText elements maskOf standsAt isNamed heldOf foundBelow foundIn isNothing indexOf isDeclared declaredBefore judgeDevice parameterEntry addedParameter judgeParameter isNatural naturalOf isPaired hasPart isMasked masksKept portOf partMask partEntry portFound partWords-of-register registerEntry unknownPort badOffset registerWritten addedRegister judgeRegister unlessStopped stopped unlessBroken withParameters withRegisters withVariables flagOf triggers headWords withVariable badTrigger badBehaviours lowest nameFault earlyFault lateNumber addedVariable judgeVariable wordOf-of-words written appended
+unfolding noFault faultIf only isFault orElse pieceNamed unknownIn pieceWords piecesOn allHave listFor partWords isElement maskText elements maskOf arePaired atMostOne standsAt isNamed heldOf foundBelow foundIn isNothing indexOf isDeclared declaredBefore judgeDevice parameterEntry addedParameter judgeParameter isNatural naturalOf hasPart masksKept portOf partMask partEntry portFound partWords-of-register registerEntry unknownPort badOffset registerWritten addedRegister judgeRegister unlessStopped stopped unlessBroken withParameters withRegisters withVariables flagOf triggers headWords withVariable badBehaviours lowest nameFault earlyFault lateNumber addedVariable judgeVariable wordOf-of-words written appended
 rules = tt
 
 -- a whole text

@@ -5,6 +5,7 @@ pub mod Names
 pub mod Words
 pub mod Parameter
 pub mod Mask
+pub mod Modifiers
 pub mod Register
 pub mod Lists
 pub mod Variable

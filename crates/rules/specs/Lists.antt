@@ -2,7 +2,7 @@
 -- A list was read into five words for each piece: the place and the length of the register's name, whether it is taken whole, the high bit and the low one.
 -- `rs` are the registers; a part p is 0 for read and 1 for write.
 use Prim.Native.Nat.{ℕ, zero, suc, _+_, _*_}
-use mathlib.Core.Bool.{Bool, _&&_, _||_, cond}
+use mathlib.Core.Bool.{Bool, _&&_, cond}
 use mathlib.Core.List.{List, [], _∷_}
 use lib.Dec.{eqb}
 use lib.ListN.{getD, replicate}
@@ -13,6 +13,7 @@ use Rattle.tables.specs.Words.{present, registerPart}
 use Rattle.rules.specs.declared.fault.Fault.{Fault}
 use Rattle.rules.specs.declared.names.Found.{Found}
 use Rattle.rules.specs.Fault.{noFault, faultIf, orElse}
+use Rattle.rules.specs.Modifiers.{arePaired}
 use Rattle.rules.specs.Names.{nameOf, registerNamed, isNothing, indexOf}
 use Rattle.rules.specs.Words.{wordOf, written}
 
@@ -41,10 +42,9 @@ module _ (text rs list : List ℕ) where
 
 -- ── which list gives which part ──
 
--- one list with any modifier, or one `read` and one `write` in either order
-unfoldable pub paired : Variable → Bool
-paired d =
-    eqb (d .rest .count) 0 || (eqb (d .mark) 1 && eqb (d .rest .mark) 2) || (eqb (d .mark) 2 && eqb (d .rest .mark) 1)
+-- its lists are paired, as ports are
+abbrev pub paired : Variable → Bool
+paired d = arePaired (eqb (d .rest .count) 0) (d .mark) (d .rest .mark)
 
 -- each of n pieces is of a register that has the part
 unfoldable pub allHave : List ℕ → ℕ → List ℕ → ℕ → Bool

@@ -19,6 +19,7 @@ use Rattle.rules.specs.Fault.{faultIf, only, orElse}
 use Rattle.rules.specs.State.{State, unlessBroken, withRegisters}
 use Rattle.rules.specs.Names.{nameOf, parameterNamed, isNothing, indexOf, declaredBefore}
 use Rattle.rules.specs.Words.{wordOf, appended}
+use Rattle.rules.specs.Modifiers.{arePaired, atMostOne}
 use Rattle.rules.specs.Mask.{maskText, maskOf}
 
 -- ── offsets ──
@@ -36,21 +37,18 @@ naturalOf Bad = 0
 
 -- ── pairing and masks ──
 
--- one port with any modifier, or one `read` (1) and one `write` (2) in either order
-unfoldable pub isPaired : Register → Bool
-isPaired r = not (r .two) || (eqb (r .first .mark) 1 && eqb (r .second .mark) 2) || (eqb (r .first .mark) 2 && eqb (r .second .mark) 1)
+-- its ports are paired
+abbrev pub isPaired : Register → Bool
+isPaired r = arePaired (not (r .two)) (r .first .mark) (r .second .mark)
 
 -- a register has a part unless its one port has the modifier of the other part
 unfoldable pub hasPart : Register → ℕ → Bool
 hasPart r other = r .two || not (eqb (r .first .mark) other)
 
--- masks for a part: at most one, a bare one counting too; none of its own where the part is missing
-unfoldable pub isMasked : Bool → ℕ → ℕ → Bool
-isMasked present bare own = pick present (leb (bare + own) 1) (eqb own 0)
-
+-- each mask has eight elements, and each part at most one mask
 unfoldable pub masksKept : Register → Bool
 masksKept r =
-    not (r .masks .odd) && isMasked (hasPart r 2) (r .masks .bare) (r .masks .read) && isMasked (hasPart r 1) (r .masks .bare) (r .masks .write)
+    not (r .masks .odd) && atMostOne (hasPart r 2) (r .masks .bare) (r .masks .read) && atMostOne (hasPart r 1) (r .masks .bare) (r .masks .write)
 
 -- ── the entry ──
 

@@ -16,6 +16,7 @@ use Rattle.rules.specs.declared.variable.Early.{Early}
 use Rattle.rules.specs.Fault.{faultIf, orElse}
 use Rattle.rules.specs.Words.{wordOf, written}
 use Rattle.rules.specs.State.{State, unlessBroken, withVariables}
+use Rattle.rules.specs.Modifiers.{atMostOne}
 use Rattle.rules.specs.Names.{declaredBefore}
 use Rattle.rules.specs.Lists.{unknownIn, piecesOf, listFor, partWords}
 
@@ -44,12 +45,10 @@ withVariable vs d first second read write =
 
 -- ── 13 as written ──
 
--- a missing part's own `trigger`, or two for a part that is there, a bare one counting for each
-unfoldable pub badTrigger : Behaviours → ℕ → ℕ → Bool
-badTrigger b own from = (eqb from 0 && leb 1 own) || (not (eqb from 0) && leb 2 (b .bare + own))
-
+-- `volatile` twice, or more triggers than a part may have; `read` and `write` are the lists that give the parts
 unfoldable pub badBehaviours : Behaviours → ℕ → ℕ → Bool
-badBehaviours b read write = leb 2 (b .volatile) || badTrigger b (b .read) read || badTrigger b (b .write) write
+badBehaviours b read write =
+    leb 2 (b .volatile) || not (atMostOne (not (eqb read 0)) (b .bare) (b .read)) || not (atMostOne (not (eqb write 0)) (b .bare) (b .write))
 
 -- of two numbers of rules, 0 being none, the lower one
 unfoldable pub lowest : ℕ → ℕ → ℕ

@@ -4,6 +4,7 @@ pub mod declared;
 pub mod fault;
 pub mod lists;
 pub mod mask;
+pub mod modifiers;
 pub mod names;
 pub mod parameter;
 pub mod register;

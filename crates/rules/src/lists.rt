@@ -4,11 +4,12 @@ ghost use Prim.Native.Nat.{_+_, _*_, _<_, _≤_, _^_};
 ghost use mathlib.Core.List.{[], _∷_};
 ghost use lib.ListN.{getD, length};
 ghost use Rattle.rules.specs.Words.{wordOf, written};
-ghost use Rattle.rules.specs.Lists.{pieceNamed, unknownIn, piecesOn, paired, allHave, listFor, partWords};
+ghost use Rattle.rules.specs.Lists.{pieceNamed, unknownIn, piecesOn, allHave, listFor, partWords};
 use crate::fault::Fault;
 use crate::fault::fault_if;
 use crate::fault::no_fault;
 use crate::fault::or_else;
+use crate::modifiers::are_paired;
 use crate::names::Found;
 use crate::names::find;
 use crate::names::index_of;
@@ -92,14 +93,6 @@ pub fn all_have(registers: &[u32], part: usize, pieces: &[u32], count: usize) ->
     ok
 }
 
-pub fn is_paired(variable: Variable) -> bool
-    ensures { λ r. ⌜ r ≡ paired variable ⌝ }
-{
-    (variable.rest.count == 0)
-        | ((variable.mark == 1) & (variable.rest.mark == 2))
-        | ((variable.mark == 2) & (variable.rest.mark == 1))
-}
-
 // Which list gives the part: 1 for the first, 2 for the second, 0 for none.
 pub fn list_for(registers: &[u32], variable: Variable, first: &[u32], part: usize) -> usize
     requires { ⌜ part < 2 ⌝ }
@@ -113,7 +106,8 @@ pub fn list_for(registers: &[u32], variable: Variable, first: &[u32], part: usiz
         1,
         choose(variable.rest.mark as usize == own, 2, choose(bare, 1, 0)),
     );
-    choose(is_paired(variable), any, 0)
+    let alone = variable.rest.count == 0;
+    choose(are_paired(alone, variable.mark, variable.rest.mark), any, 0)
 }
 
 // A part that is there, from a place of the variables on.

@@ -6,6 +6,7 @@ use crate::fault;
 use crate::fault::Fault;
 use crate::mask;
 use crate::mask::Mask;
+use crate::modifiers;
 use crate::names;
 use crate::names::Found;
 use crate::words;
@@ -21,7 +22,7 @@ ghost use Prim.Native.Nat.{_<_, _^_};
 ghost use Rattle.expression.specs.declared.Worth.the-variants.{Good};
 ghost use Rattle.rules.specs.State.{stateOf, unlessStopped};
 ghost use Rattle.rules.specs.Words.{appended};
-ghost use Rattle.rules.specs.Register.{isNatural, naturalOf, isPaired, isMasked, hasPart, masksKept, portOf, partMask, partEntry, portFound, unknownPort, badOffset, registerWritten, partWords, registerEntry, judgeRegister};
+ghost use Rattle.rules.specs.Register.{isNatural, naturalOf, hasPart, masksKept, portOf, partMask, partEntry, portFound, unknownPort, badOffset, registerWritten, partWords, registerEntry, judgeRegister};
 
 fn is_natural(worth: Worth) -> bool
     ensures { λ r. ⌜ r ≡ isNatural worth ⌝ }
@@ -74,32 +75,11 @@ fn bad_offset(text: &[u8], parameters: &[u32], place: usize, port: Port) -> Faul
     fault::fault_if(!placed, 8, words::choose(port.given, port.sign, place))
 }
 
-// Rule 9, of the ports.
-fn is_paired(register: Register) -> bool
-    ensures { λ r. ⌜ r ≡ isPaired register ⌝ }
-{
-    let first = register.first;
-    let second = register.second;
-    !register.two
-        | ((first.mark == 1) & (second.mark == 2))
-        | ((first.mark == 2) & (second.mark == 1))
-}
-
 fn has_part(register: Register, other: u8) -> bool
     ensures { λ r. ⌜ r ≡ hasPart register other ⌝ }
 {
     let first = register.first;
     register.two | !(first.mark == other)
-}
-
-fn is_masked(present: bool, bare: u8, own: u8) -> bool
-    ensures { λ r. ⌜ r ≡ isMasked present bare own ⌝ }
-{
-    if present {
-        (bare as u32) + (own as u32) <= 1
-    } else {
-        own == 0
-    }
 }
 
 // Rule 9, of the masks.
@@ -109,7 +89,9 @@ fn masks_kept(register: Register) -> bool
     let masks = register.masks;
     let read = has_part(register, 2);
     let write = has_part(register, 1);
-    !masks.odd & is_masked(read, masks.bare, masks.read) & is_masked(write, masks.bare, masks.write)
+    let one_read = modifiers::at_most_one(read, masks.bare, masks.read);
+    let one_write = modifiers::at_most_one(write, masks.bare, masks.write);
+    !masks.odd & one_read & one_write
 }
 
 // Rules 6 to 9, as the register is written.
@@ -139,8 +121,8 @@ fn register_written(
     let also_seven = fault::only(register.two, unknown_port(text, parameters, second));
     let eight = bad_offset(text, parameters, place, first);
     let also_eight = fault::only(register.two, bad_offset(text, parameters, place, second));
-    let kept = is_paired(register) & masks_kept(register);
-    let nine = fault::fault_if(!kept, 9, place);
+    let paired = modifiers::are_paired(!register.two, first.mark, second.mark);
+    let nine = fault::fault_if(!(paired & masks_kept(register)), 9, place);
     let from_eight = fault::or_else(eight, fault::or_else(also_eight, nine));
     let from_seven = fault::or_else(seven, fault::or_else(also_seven, from_eight));
     fault::or_else(six, from_seven)

@@ -8,7 +8,7 @@ ghost use Rattle.tables.specs.Tables.{countOf};
 ghost use Rattle.tables.specs.Rules.{variableFault, variableShape};
 ghost use Rattle.rules.specs.Words.{written};
 ghost use Rattle.rules.specs.State.{stateOf};
-ghost use Rattle.rules.specs.Variable.{triggers, headWords, withVariable, badTrigger, badBehaviours, lowest, nameFault, firstPieces, secondPieces, earlyOf, readOf, judgeVariable, Mapped, MappedUnless};
+ghost use Rattle.rules.specs.Variable.{triggers, headWords, withVariable, badBehaviours, lowest, nameFault, firstPieces, secondPieces, earlyOf, readOf, judgeVariable, Mapped, MappedUnless};
 use crate::declared::Judging;
 use crate::declared::declared_before;
 use crate::declared::with_fault;
@@ -18,6 +18,7 @@ use crate::fault::or_else;
 use crate::lists::list_for;
 use crate::lists::resolve;
 use crate::lists::store_given;
+use crate::modifiers::at_most_one;
 use crate::words::narrow;
 use crate::words::put;
 use syntax::Behaviours;
@@ -91,18 +92,13 @@ pub fn store_variable(
     put(variables, 0, narrow(v + 1));
 }
 
-// Rule 13 for one part, as written.
-pub fn bad_trigger(b: Behaviours, own: u8, from: usize) -> bool
-    ensures { λ r. ⌜ r ≡ badTrigger b own from ⌝ }
-{
-    let bare = b.bare as usize;
-    ((from == 0) & (1 <= own)) | (!(from == 0) & (2 <= bare + own as usize))
-}
-
+// Rule 13, as written: `volatile` twice, or more triggers than a part may have.
 pub fn bad_behaviours(b: Behaviours, read: usize, write: usize) -> bool
     ensures { λ r. ⌜ r ≡ badBehaviours b read write ⌝ }
 {
-    (2 <= b.volatile) | bad_trigger(b, b.read, read) | bad_trigger(b, b.write, write)
+    let one_read = at_most_one(read != 0, b.bare, b.read);
+    let one_write = at_most_one(write != 0, b.bare, b.write);
+    (2 <= b.volatile) | !one_read | !one_write
 }
 
 // The lower of two numbers of rules; 0 is none.

@@ -25,15 +25,15 @@ choose-requires-2 c κs = search needs
 choose-requires-3 : tie.Need-choose-requires-3
 choose-requires-3 c κs = search needs
 
-is-paired-requires : tie.Need-is-paired-requires
-is-paired-requires c κs = search needs
+are-paired-requires : tie.Need-are-paired-requires
+are-paired-requires c κs = search needs
 
 choose-requires-4 : tie.Need-choose-requires-4
 choose-requires-4 c κs = search needs
 
 returns : tie.Need-returns
 unfolding listFor
-returns c = rw (c .choose4 .ensures, c .before .is-paired .ensures, c .before .before .choose3 .ensures, c .before .before .before .choose2 .ensures, c .before .before .before .before .choose .ensures, c .before .before .before .before .before .before .before .all-have .ensures)
+returns c = rw (c .choose4 .ensures, c .before .are-paired .ensures, c .before .before .before .choose3 .ensures, c .before .before .before .before .choose2 .ensures, c .before .before .before .before .before .choose .ensures, c .before .before .before .before .before .before .before .before .all-have .ensures)
 
 pub list-for-spec : {M : Type 1} → statement M
 list-for-spec =
@@ -46,6 +46,6 @@ list-for-spec =
     choose-requires
     choose-requires-2
     choose-requires-3
-    is-paired-requires
+    are-paired-requires
     choose-requires-4
     returns)

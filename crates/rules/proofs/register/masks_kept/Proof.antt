@@ -10,15 +10,15 @@ has-part-requires c κs = search needs
 has-part-requires-2 : tie.Need-has-part-requires-2
 has-part-requires-2 c κs = search needs
 
-is-masked-requires : tie.Need-is-masked-requires
-is-masked-requires c κs = search needs
+at-most-one-requires : tie.Need-at-most-one-requires
+at-most-one-requires c κs = search needs
 
-is-masked-requires-2 : tie.Need-is-masked-requires-2
-is-masked-requires-2 c κs = search needs
+at-most-one-requires-2 : tie.Need-at-most-one-requires-2
+at-most-one-requires-2 c κs = search needs
 
 returns : tie.Need-returns
 unfolding masksKept
-returns c = rw (c .before .is-masked .ensures, c .is-masked2 .ensures, c .before .before .before .before .has-part .ensures, c .before .before .before .has-part2 .ensures)
+returns c = rw (c .before .at-most-one2 .ensures, c .before .before .at-most-one .ensures, c .before .before .before .has-part2 .ensures, c .before .before .before .before .has-part .ensures)
 
 pub masks-kept-spec : {M : Type 1} → statement M
 masks-kept-spec =
@@ -26,6 +26,6 @@ masks-kept-spec =
     (tie.spec
     has-part-requires
     has-part-requires-2
-    is-masked-requires
-    is-masked-requires-2
+    at-most-one-requires
+    at-most-one-requires-2
     returns)

@@ -27,8 +27,8 @@ bad-offset-requires-2 c κs = search needs
 only-requires-2 : tie.Need-only-requires-2
 only-requires-2 c κs = search needs
 
-is-paired-requires : tie.Need-is-paired-requires
-is-paired-requires c κs = search needs
+are-paired-requires : tie.Need-are-paired-requires
+are-paired-requires c κs = search needs
 
 masks-kept-requires : tie.Need-masks-kept-requires
 masks-kept-requires c κs = search needs
@@ -53,7 +53,7 @@ or-else-requires-5 c κs = search needs
 
 returns : tie.Need-returns
 unfolding registerWritten stateOf
-returns c = c .or-else5 .ensures ∙ rw (c .before .or-else4 .ensures, c .before .before .or-else3 .ensures, c .before .before .before .or-else2 .ensures, c .before .before .before .before .or-else .ensures, c .before .before .before .before .before .fault-if .ensures, c .before .before .before .before .before .before .masks-kept .ensures, c .before .before .before .before .before .before .before .is-paired .ensures, c .before .before .before .before .before .before .before .before .only2 .ensures, c .before .before .before .before .before .before .before .before .before .bad-offset2 .ensures, c .before .before .before .before .before .before .before .before .before .before .bad-offset .ensures, c .before .before .before .before .before .before .before .before .before .before .before .only .ensures, c .before .before .before .before .before .before .before .before .before .before .before .before .unknown-port2 .ensures, c .before .before .before .before .before .before .before .before .before .before .before .before .before .unknown-port .ensures, c .before .before .before .before .before .before .before .before .before .before .before .before .before .before .declared-before .ensures)
+returns c = c .or-else5 .ensures ∙ rw (c .before .or-else4 .ensures, c .before .before .or-else3 .ensures, c .before .before .before .or-else2 .ensures, c .before .before .before .before .or-else .ensures, c .before .before .before .before .before .fault-if .ensures, c .before .before .before .before .before .before .masks-kept .ensures, c .before .before .before .before .before .before .before .are-paired .ensures, c .before .before .before .before .before .before .before .before .before .only2 .ensures, c .before .before .before .before .before .before .before .before .before .before .bad-offset2 .ensures, c .before .before .before .before .before .before .before .before .before .before .before .bad-offset .ensures, c .before .before .before .before .before .before .before .before .before .before .before .before .only .ensures, c .before .before .before .before .before .before .before .before .before .before .before .before .before .unknown-port2 .ensures, c .before .before .before .before .before .before .before .before .before .before .before .before .before .before .unknown-port .ensures, c .before .before .before .before .before .before .before .before .before .before .before .before .before .before .before .declared-before .ensures)
 
 pub register-written-spec : {M : Type 1} → statement M
 register-written-spec =
@@ -66,7 +66,7 @@ register-written-spec =
     bad-offset-requires
     bad-offset-requires-2
     only-requires-2
-    is-paired-requires
+    are-paired-requires
     masks-kept-requires
     fault-if-requires
     or-else-requires

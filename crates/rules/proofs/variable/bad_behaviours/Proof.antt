@@ -4,15 +4,15 @@ use borrow.Author.Needs.{needs}
 use Rattle.rules.proofs.variable.bad_behaviours.Statement.{statement}
 use Rattle.rules.proofs.variable.bad_behaviours.Tie as tie
 
-bad-trigger-requires : tie.Need-bad-trigger-requires
-bad-trigger-requires c κs = search needs
+at-most-one-requires : tie.Need-at-most-one-requires
+at-most-one-requires c κs = search needs
 
-bad-trigger-requires-2 : tie.Need-bad-trigger-requires-2
-bad-trigger-requires-2 c κs = search needs
+at-most-one-requires-2 : tie.Need-at-most-one-requires-2
+at-most-one-requires-2 c κs = search needs
 
 returns : tie.Need-returns
 unfolding badBehaviours
-returns c = rw (c .bad-trigger2 .ensures, c .before .bad-trigger .ensures)
+returns c = rw (c .before .at-most-one2 .ensures, c .before .before .at-most-one .ensures)
 
 pub bad-behaviours-spec : {M : Type 1} → statement M
-bad-behaviours-spec = tie.close (tie.spec bad-trigger-requires bad-trigger-requires-2 returns)
+bad-behaviours-spec = tie.close (tie.spec at-most-one-requires at-most-one-requires-2 returns)
