@@ -8,7 +8,7 @@ use mathlib.Core.List.{List, [], _∷_}
 use native.Mathlib.Omega.{arith}
 use native.Mathlib.Nat.{not-suc-le-zero, le-of-suc-le-suc}
 use lib.Dec.{eqb}
-use lib.IntN.{ℤ, pos, negsuc}
+use lib.IntN.{ℤ, pos, natAbs}
 use lib.ListN.{length, getD}
 use borrow.Author.Tests.{le-ltb, lt-ltb, ne-eqb}
 use Rattle.tables.specs.declared.Part.{Part}
@@ -59,10 +59,6 @@ by-22 sound t s tests o ok long narrow none =
 
 -- ── the answer ──
 
-abbrev natural : ℤ → ℕ
-natural (pos n) = n
-natural (negsuc n) = 0
-
 abbrev partOf : ℕ → Part
 partOf n = cond (eqb n 0) reading writing
 
@@ -72,14 +68,14 @@ part-back writing = refl
 
 abbrev ofWords : ℕ → ℤ → ℤ → ℤ → ℤ → Answer
 ofWords kind a b c d =
-    cond (eqb kind 0) (Refused (natural a))
+    cond (eqb kind 0) (Refused (natAbs a))
     (cond (eqb kind 1) Opened
-    (cond (eqb kind 2) (Offered (record { direction = partOf (natural a); parameter = natural b; offset = natural c; byte = natural d }))
-    (cond (eqb kind 3) (Done a (natural b))
+    (cond (eqb kind 2) (Offered (record { direction = partOf (natAbs a); parameter = natAbs b; offset = natAbs c; byte = natAbs d }))
+    (cond (eqb kind 3) (Done a (natAbs b))
     Ended)))
 
 abbrev answerOf : List ℤ → Answer
-answerOf words = ofWords (natural (word 0)) (word 1) (word 2) (word 3) (word 4)
+answerOf words = ofWords (natAbs (word 0)) (word 1) (word 2) (word 3) (word 4)
   where
     word : ℕ → ℤ
     word i = getD words i (pos 0)

@@ -16,7 +16,7 @@ use Rattle.tables.specs.declared.Part.the-variants.{Read as reading, Write as w
 use Rattle.tables.specs.View.{Tables, sound, variableCount, parameterOf, offsetOf}
 use Rattle.station.specs.declared.Operation.{Operation}
 use Rattle.station.specs.declared.Operation.the-variants.{Idle, Reading, Writing}
-use Rattle.station.specs.Calls.{State, Outcome, Test, refused, unless, isAllowed, isLast, readOn, writeOn, stepsOf, checked, opening, openingTests, beginRead, readTests, beginWrite, writeTests, confirmed, confirm, abandoned, abandon}
+use Rattle.station.specs.Calls.{State, Outcome, Test, refused, unless, isAllowed, isLast, gather, registerTaken, keeping, writeAccess, readOn, writeOn, stepsOf, checked, opening, openingTests, beginRead, readTests, beginWrite, writeTests, confirmed, confirm, abandoned, abandon}
 use Rattle.station.proofs.Distinct.{at-most-8}
 use Rattle.station.proofs.Refusals.{NoneHolds}
 use Rattle.station.proofs.Underway.{reading-allowed, writing-allowed}
@@ -57,22 +57,23 @@ module _ (t : Tables) (narrow : (i : ℕ) → Fits w32 (getD (t .registers) i 0)
   last-small : (part : Part) (v n : ℕ) → sound t ≡ true → v < variableCount t → isLast t part v n ≡ true → n < 2 ^ 32
   last-small part v n ok hv last = omega (arith, at-most-8 t part v ok hv, eqb-true n (stepsOf t part v) last)
 
-  read-on-small : (s : State) (v n g : ℕ) (last : Bool) → isLast t reading v n ≡ last → sound t ≡ true → v < variableCount t
-      → Small (readOn last t s v n g .answer)
-  read-on-small s v n g true e ok hv = last-small reading v n ok hv e
-  read-on-small s v n g false e ok hv = offer-small reading _
-
-  write-on-small : (s : State) (v n x : ℕ) (last : Bool) → isLast t writing v n ≡ last → sound t ≡ true → v < variableCount t
-      → Small (writeOn last t s v n x .answer)
-  write-on-small s v n x true e ok hv = last-small writing v n ok hv e
-  write-on-small s v n x false e ok hv = offer-small writing _
+  -- an operation that goes on, or is done at the last with n accesses
+  on-small : (part : Part) (v n : ℕ) (on : Bool → Outcome) → sound t ≡ true → v < variableCount t
+      → (n < 2 ^ 32 → Small (on true .answer)) → Small (on false .answer) → Small (on (isLast t part v n) .answer)
+  on-small part v n on ok hv done offered = go (isLast t part v n) refl
+    where
+      go : (last : Bool) → isLast t part v n ≡ last → Small (on last .answer)
+      go true e = done (last-small part v n ok hv e)
+      go false e = offered
 
   confirmed-small : (s : State) (op : Operation) (byte : ℕ) → sound t ≡ true → isAllowed t op ≡ true → Small (confirmed t s op byte .answer)
   confirmed-small s Idle byte ok allowed = omega arith
   confirmed-small s (Reading v step g) byte ok allowed =
-      read-on-small s v (suc step) _ (isLast t reading v (suc step)) refl ok (reading-allowed t v step g allowed .0)
+      on-small reading v (suc step) (λ last. readOn last t s v (suc step) (gather t v g (registerTaken t reading v step) byte)) ok
+      (reading-allowed t v step g allowed .0) (λ few. few) (offer-small reading _)
   confirmed-small s (Writing v step x) byte ok allowed =
-      write-on-small _ v (suc step) x (isLast t writing v (suc step)) refl ok (writing-allowed t v step x allowed .0)
+      on-small writing v (suc step) (λ last. writeOn last t (keeping s (registerTaken t writing v step) (writeAccess t s v step x .byte)) v (suc step) x) ok
+      (writing-allowed t v step x allowed .0) (λ few. few) (offer-small writing _)
 
   pub confirm-small : (s : State) (byte : ℕ) → Small (confirm sound t s byte .answer)
   confirm-small s byte =
