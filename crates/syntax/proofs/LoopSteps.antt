@@ -1,6 +1,7 @@
 -- The turns of a loop, once for all of them.
 -- Assumes nothing.
-use Prim.Native.Nat.{ℕ, zero, suc}
+use Prim.Native.Nat.{ℕ, zero, suc, _+_, _<_}
+use native.Mathlib.Omega.{arith}
 use mathlib.Core.Path.{_≡_, refl, sym, ap, _∙_, subst}
 use mathlib.Core.Bool.{Bool, true, false}
 use mathlib.Core.List.{List}
@@ -42,3 +43,13 @@ loop-keeps text step tells turn I keeps (suc room) p i = by (tells (seenAt text 
     by : (b : Bool) → tells (seenAt text (step p) .kind) ≡ b → (I (turn p) → I (loopWith text step tells turn room (turn p))) → I (loopWith text step tells turn (suc room) p)
     by true e rest = subst I (sym (loop-on text step tells turn room p e)) (rest (keeps p e i))
     by false e rest = subst I (sym (loop-end text step tells turn (suc room) p e)) i
+
+-- Along a text: what holds at a place once it holds at every place behind, as far as the text goes, holds at every place.
+along-from : {A : Type 0} (size : ℕ) (Holds : A → ℕ → Type 0) → ((x : A) (at : ℕ) → ((y : A) (end : ℕ) → at < end → at < size → Holds y end) → Holds x at)
+    → (bound : ℕ) (x : A) (at : ℕ) → size < at + bound → Holds x at
+along-from size Holds turn zero x at h = turn x at (λ y end ahead inside. absurd (omega arith))
+along-from size Holds turn (suc bound) x at h = turn x at (λ y end ahead inside. along-from size Holds turn bound y end (omega arith))
+
+pub along : {A : Type 0} (size : ℕ) (Holds : A → ℕ → Type 0) → ((x : A) (at : ℕ) → ((y : A) (end : ℕ) → at < end → at < size → Holds y end) → Holds x at)
+    → (x : A) (at : ℕ) → Holds x at
+along size Holds turn x at = along-from size Holds turn (suc size) x at (omega arith)

@@ -31,6 +31,7 @@ use Rattle.syntax.specs.declared.reader.Step.the-variants.{At, Refused}
 use Rattle.syntax.specs.Offset.{stepIn, expressionAfter}
 use Rattle.syntax.specs.Sizes.{Encloser, parenthesis, minus, register, operand, ended, closed, asksOperand, onward, passesAt, Tally, tallied, longName, tooMuch}
 use Rattle.syntax.proofs.ExpressionFollows.{Matches, opening-kind, refused-alike, negated-step, closed-step}
+use Rattle.syntax.proofs.LoopSteps.{along}
 use Rattle.syntax.proofs.Tally.{Agrees, refused-agrees, agrees-unexpected, agrees-five, agrees-kind, agrees-tok, goes}
 
 -- an operator is something
@@ -97,10 +98,6 @@ module _ (text : List ℕ) (w : Option ℕ) (registers variables : ℕ) where
             let ahead = rest-ahead text depth level x at e q in
             rw (rest-more text depth level x at e q) (rest _ end (ahead .0) (ahead .1) (subst (λ (t : Outcome). Agrees text w (behind o) (stepIn t)) q (part e)))
 
-    rest-agrees : (bound : ℕ) (x : Worth) (at : ℕ) → length text < at + bound → Rest x at
-    rest-agrees zero x at h = turn x at (λ y end ahead inside. absurd (omega arith))
-    rest-agrees (suc bound) x at h = turn x at (λ y end ahead inside. rest-agrees bound y end (omega arith))
-
     chain-agrees : Part o (chainAt text depth level)
     unfolding stepIn
     chain-agrees at a = by (chainAt text depth (level - 1) at) refl
@@ -109,7 +106,7 @@ module _ (text : List ℕ) (w : Option ℕ) (registers variables : ℕ) where
         by (Stopped number place) q = rw (chain-first text depth level at some, q) (subst (λ (t : Outcome). Agrees text w (behind o) (stepIn t)) q (parts at a))
         by (Read x end) q =
             rw (chain-first text depth level at some, q)
-            (rest-agrees (suc (length text)) x end (omega arith) (subst (λ (t : Outcome). Agrees text w (behind o) (stepIn t)) q (parts at a)))
+            (along (length text) Rest turn x end (subst (λ (t : Outcome). Agrees text w (behind o) (stepIn t)) q (parts at a)))
 
   -- both levels over an operand
   sum-agrees : (depth : ℕ) (o : List Encloser) → Part o (operandAt text depth) → Part o (chainAt text depth 2)
