@@ -49,6 +49,11 @@ module _ {X Y : Type 0} (j : X → Declaration → X) (k : Y → Declaration →
   either-through true a b u v e g = e
   either-through false a b u v e g = g
 
+  -- a declaration, or one too many, which is refused at `s`
+  one-through : (c : Bool) (p : Progress X) (s : Step) (d : Declaration) (t : Step) → remade f (pick c (movedTo p s) (taken j p d t)) ≡ pick c (movedTo (remade f p) s) (taken k (remade f p) d t)
+  unfolding movedTo remade
+  one-through c p s d t = either-through c _ _ _ _ refl (taken-through p d t)
+
   module _ (text : List ℕ) where
     head-through : (p : Progress X) → remade f (headWith j text p) ≡ headWith k text (remade f p)
     unfolding headWith remade
@@ -56,23 +61,16 @@ module _ {X Y : Type 0} (j : X → Declaration → X) (k : Y → Declaration →
 
     parameter-through : (p : Progress X) → remade f (parameterWith j text p) ≡ parameterWith k text (remade f p)
     unfolding parameterWith movedTo remade
-    parameter-through p = either-through (leb 16 (p .parameters)) _ _ _ _ refl (taken-through p _ _)
+    parameter-through p = one-through (leb 16 (p .parameters)) p _ _ _
 
     more-parameters-through : (room : ℕ) (p : Progress X) → remade f (moreParameters j text room p) ≡ moreParameters k text room (remade f p)
     unfolding moreParameters movedTo remade
     more-parameters-through = loop-through text (λ kind. eqb kind 300) (λ p. p .step) (λ p. p .step) _ _ (remade f) (λ p. refl) (λ p. parameter-through (movedTo p (seenAt text (p .step) .past)))
 
-    register-through : (p : Progress X) → remade f (registerWith j text p) ≡ registerWith k text (remade f p)
-    unfolding registerWith movedTo remade
-    register-through p = either-through (leb 64 (p .registers)) _ _ _ _ refl (taken-through p _ _)
-
-    variable-through : (p : Progress X) → remade f (variableWith j text p) ≡ variableWith k text (remade f p)
-    unfolding variableWith movedTo remade
-    variable-through p = either-through (leb 128 (p .variables)) _ _ _ _ refl (taken-through p _ _)
-
     declaration-through : (p : Progress X) → remade f (declarationWith j text p) ≡ declarationWith k text (remade f p)
-    unfolding declarationWith remade
-    declaration-through p = either-through (eqb (seenAt text (p .step) .kind) 529) _ _ _ _ (register-through p) (variable-through p)
+    unfolding declarationWith registerWith variableWith movedTo remade
+    declaration-through p =
+        either-through (eqb (seenAt text (p .step) .kind) 529) _ _ _ _ (one-through (leb 64 (p .registers)) p _ _ _) (one-through (leb 128 (p .variables)) p _ _ _)
 
     more-declarations-through : (room : ℕ) (p : Progress X) → remade f (moreDeclarations j text room p) ≡ moreDeclarations k text room (remade f p)
     unfolding moreDeclarations remade
