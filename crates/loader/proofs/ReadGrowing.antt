@@ -15,11 +15,11 @@ use Rattle.syntax.specs.declared.reader.Named.{Named}
 use Rattle.syntax.specs.declared.register.Register.{Register}
 use Rattle.syntax.specs.KindNames.{sign, end-kind, 'register', 'variable'}
 use Rattle.syntax.specs.Limits.{mostRegisters, mostVariables}
-use Rattle.syntax.specs.Reader.{seenAt, placeAt, fixedAfter, unexpected}
-use Rattle.syntax.specs.Parameter.{ParameterRead, tooMany}
+use Rattle.syntax.specs.Reader.{seenAt, placeAt, fixedAfter, unexpected, tooMany, extraAfter}
+use Rattle.syntax.specs.Parameter.{ParameterRead}
 use Rattle.syntax.specs.Register.{registerAfter}
 use Rattle.syntax.specs.Variable.{VariableRead, variableAfter}
-use Rattle.syntax.specs.Text.{Declaration, aDevice, aParameter, aRegister, aVariable, Progress, begins, extraWord, movedTo, counted, taken, registerWith, variableWith, declarationWith, moreDeclarations, declarationsWith, readingWith}
+use Rattle.syntax.specs.Text.{Declaration, aDevice, aParameter, aRegister, aVariable, Progress, begins, movedTo, counted, taken, registerWith, variableWith, declarationWith, moreDeclarations, declarationsWith, readingWith}
 use Rattle.rules.specs.State.{State, unlessStopped}
 use Rattle.rules.specs.Parameter.{judgeDevice, judgeParameter}
 use Rattle.rules.specs.Register.{judgeRegister}
@@ -164,8 +164,8 @@ module _ (text : List ℕ) where
 
   -- one declaration more: one too many stops the reading, and so does one that is not whole
   some-next : (p : Progress State) (full : Bool) (kind : ℕ) (d : Declaration) (s : Step) → ((next : ℕ) → Some (counted (judge text) p d next))
-      → Some (pick full (movedTo p (extraWord text kind (p .step))) (taken (judge text) p d s))
-  unfolding movedTo extraWord taken
+      → Some (pick full (movedTo p (extraAfter text kind (p .step))) (taken (judge text) p d s))
+  unfolding movedTo extraAfter taken
   some-next p true kind d s one = omega (arith, many-went (placeAt text (p .step)) (fixedAfter text kind (p .step)))
   some-next p false kind d (At next) one = one next
   some-next p false kind d (Refused number place) one = omega arith

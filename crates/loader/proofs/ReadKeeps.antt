@@ -11,13 +11,13 @@ use Rattle.syntax.specs.declared.reader.Step.{Step}
 use Rattle.syntax.specs.declared.reader.Step.the-variants.{At, Refused}
 use Rattle.syntax.specs.declared.reader.Named.{Named}
 use Rattle.syntax.specs.declared.register.Register.{Register}
-use Rattle.syntax.specs.KindNames.{sign, 'register', 'variable'}
+use Rattle.syntax.specs.KindNames.{sign, name-kind, 'register', 'variable'}
 use Rattle.syntax.specs.Limits.{mostParameters, mostRegisters, mostVariables}
-use Rattle.syntax.specs.Reader.{seenAt}
-use Rattle.syntax.specs.Parameter.{ParameterRead, extraName, parameterAfter}
+use Rattle.syntax.specs.Reader.{seenAt, extraAfter}
+use Rattle.syntax.specs.Parameter.{ParameterRead, parameterAfter}
 use Rattle.syntax.specs.Register.{registerAfter}
 use Rattle.syntax.specs.Variable.{VariableRead, variableAfter}
-use Rattle.syntax.specs.Text.{Declaration, aDevice, aParameter, aRegister, aVariable, Progress, begins, extraWord, movedTo, counted, taken, headWith, parameterWith, moreParameters, registerWith, variableWith, declarationWith, moreDeclarations, parametersWith, declarationsWith}
+use Rattle.syntax.specs.Text.{Declaration, aDevice, aParameter, aRegister, aVariable, Progress, begins, movedTo, counted, taken, headWith, parameterWith, moreParameters, registerWith, variableWith, declarationWith, moreDeclarations, parametersWith, declarationsWith}
 use Rattle.syntax.proofs.LoopSteps.{loop-keeps}
 use Rattle.rules.proofs.ParameterShape.{Sets, parameter-sets}
 use Rattle.loader.proofs.PieceCounts.{WellRead, well-read}
@@ -40,7 +40,7 @@ module _ {X : Type 0} (judge : X → Declaration → X) (text : List ℕ) (I : P
     parameter-keeps p i = go (leb mostParameters (p .parameters)) refl
       where
         go : (b : Bool) → leb mostParameters (p .parameters) ≡ b → I (parameterWith judge text p)
-        go true e = rw e (moves p (extraName text (p .step)) i)
+        go true e = rw e (moves p (extraAfter text name-kind (p .step)) i)
         go false e =
             rw e
             (taken-keeps p (aParameter (parameterAfter text (replicate 32 0) (p .step))) _
@@ -62,7 +62,7 @@ module _ {X : Type 0} (judge : X → Declaration → X) (text : List ℕ) (I : P
     register-keeps p i = go (leb mostRegisters (p .registers)) refl
       where
         go : (b : Bool) → leb mostRegisters (p .registers) ≡ b → I (registerWith judge text p)
-        go true e = rw e (moves p (extraWord text 'register' (p .step)) i)
+        go true e = rw e (moves p (extraAfter text 'register' (p .step)) i)
         go false e = rw e (taken-keeps p _ _ (λ next. register p (registerAfter text (p .step)) next (leb-false mostRegisters (p .registers) e) i) i)
 
     variable-keeps : (p : Progress X) → I p → I (variableWith judge text p)
@@ -70,7 +70,7 @@ module _ {X : Type 0} (judge : X → Declaration → X) (text : List ℕ) (I : P
     variable-keeps p i = go (leb mostVariables (p .variables)) refl
       where
         go : (b : Bool) → leb mostVariables (p .variables) ≡ b → I (variableWith judge text p)
-        go true e = rw e (moves p (extraWord text 'variable' (p .step)) i)
+        go true e = rw e (moves p (extraAfter text 'variable' (p .step)) i)
         go false e =
             rw e
             (taken-keeps p (aVariable (variableAfter text (replicate 40 0) (replicate 40 0) (p .step))) _

@@ -13,9 +13,9 @@ use borrow.Author.Tests.{leb-false, leb-true}
 use Rattle.syntax.specs.declared.reader.Step.{Step}
 use Rattle.syntax.specs.declared.reader.Step.the-variants.{At, Refused}
 use Rattle.syntax.specs.declared.register.Register.{Register}
-use Rattle.syntax.specs.Reader.{fixedAfter}
+use Rattle.syntax.specs.Reader.{fixedAfter, extraAfter}
 use Rattle.syntax.specs.Register.{registerAfter}
-use Rattle.syntax.specs.Text.{Progress, aRegister, movedTo, counted, taken, extraWord, registerWith}
+use Rattle.syntax.specs.Text.{Progress, aRegister, movedTo, counted, taken, registerWith}
 use Rattle.tables.specs.Words.{countOf}
 use Rattle.rules.specs.Fault.{isFault}
 use Rattle.rules.specs.Words.{wordOf, written, appended}
@@ -90,6 +90,6 @@ module _ (text : List ℕ) (p : Progress State) {bits held pulled bits1 held1 pu
     where
       go : (b : Bool) → leb 64 (p .registers) ≡ b → (s : Step) → fixedAfter text 315 (registerAfter text (p .step) .step) ≡ s
           → Ready (registerWith (judge text) text p) bits held pulled bits1 held1 pulled1
-      go true e s g = rw e (ready-moved (extraWord text 529 (p .step)))
+      go true e s g = rw e (ready-moved (extraAfter text 529 (p .step)))
       go false e (Refused number place) g = rw (e, g) (ready-moved (Refused number place))
       go false e (At next) g = rw (e, g) (ready-counted (registerAfter text (p .step)) next e)

@@ -41,7 +41,7 @@ fn register_next(
 {
     let from = loading.step;
     if 64 <= loading.registers {
-        let extra = syntax::extra_word(text, REGISTER, from);
+        let extra = syntax::extra_after(text, REGISTER, from);
         return moved(loading, extra);
     }
     let one = syntax::register_after(text, from);
@@ -142,7 +142,7 @@ fn variable_next(
 {
     let from = loading.step;
     if 128 <= loading.variables {
-        let extra = syntax::extra_word(text, VARIABLE, from);
+        let extra = syntax::extra_after(text, VARIABLE, from);
         return moved(loading, extra);
     }
     let mut first = [0usize; 40];

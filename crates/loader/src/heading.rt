@@ -9,6 +9,8 @@ ghost use lib.ListN.{length};
 ghost use Rattle.syntax.specs.Text.{headWith, parameterWith, moreParameters, parametersWith};
 ghost use Rattle.loader.specs.Judge.{judge, progressOf, movedBy};
 
+const NAME: u16 = 1;
+
 const CLOSE: u16 = 297;
 
 const COMMA: u16 = 300;
@@ -73,7 +75,7 @@ fn parameter_next(
 {
     let from = loading.step;
     if 16 <= loading.parameters {
-        let extra = syntax::extra_name(text, from);
+        let extra = syntax::extra_after(text, NAME, from);
         return moved(loading, extra);
     }
     let mut ranges = [0u32; 32];

@@ -15,11 +15,11 @@ use Rattle.syntax.specs.Attribute.{noBehaviours, madeVolatile, madeTrigger, tri
 use Rattle.syntax.specs.Heading.{headAfter}
 use Rattle.syntax.specs.Loop.{loopWith}
 use Rattle.syntax.specs.Offset.{stepIn}
-use Rattle.syntax.specs.Parameter.{tooMany, stored, widthAfter, rangeTo, rangeAfter, extraRange, extraName, nextRange, rangeTurn, moreRanges, rangesAfter, closedSet, setAfter, parameterAfter}
+use Rattle.syntax.specs.Parameter.{stored, widthAfter, rangeTo, rangeAfter, nextRange, rangeTurn, moreRanges, rangesAfter, closedSet, setAfter, parameterAfter}
 use Rattle.syntax.specs.Piece.{filed, rangePiece, bitsTurn, moreBits, bracketAfter, pieceAfter, pieceTurn, morePieces, piecesAfter}
-use Rattle.syntax.specs.Reader.{unexpected, sizedName, nameIn, numberIn, seenAt, placeAt, fixedAfter, nameAfter, numberAfter}
-use Rattle.syntax.specs.Register.{bitsIn, worthIn, valuedBy, upOne, noMasks, counted, noPort, markAfter, bitsAfter, valueAfter, offsetAfter, portAfter, maskAfter, attributeAfter, maskTurn, moreMasks, secondMarked, restAfter, registerAfter}
-use Rattle.syntax.specs.Text.{begins as begins-of-text, extraWord, movedTo, counted as counted-of-text, taken, headWith, parameterWith, moreParameters, registerWith, variableWith, declarationWith, moreDeclarations, parametersWith, declarationsWith, readingWith, listed, reading, remade}
+use Rattle.syntax.specs.Reader.{unexpected, tooMany, sized, seenAt, placeAt, fixedAfter, extraAfter, tokenAt, tokenAfter, spelledAfter, nameAfter, numberAfter, enclosedAfter}
+use Rattle.syntax.specs.Register.{worthIn, valuedBy, upOne, noMasks, counted, noPort, markAfter, valueAfter, offsetAfter, portAfter, maskAfter, attributeAfter, maskTurn, moreMasks, secondMarked, restAfter, registerAfter}
+use Rattle.syntax.specs.Text.{begins as begins-of-text, movedTo, counted as counted-of-text, taken, headWith, parameterWith, moreParameters, registerWith, variableWith, declarationWith, moreDeclarations, parametersWith, declarationsWith, readingWith, listed, reading, remade}
 use Rattle.syntax.specs.Variable.{secondMarked as secondMarked-of-variable, secondAfter, restAfter as restAfter-of-variable, variableAfter}
 use Rattle.tables.specs.Every.{every, some, firstOf}
 use Rattle.tables.specs.Marks.{downFrom, joined, has, meets, distinct}
@@ -58,7 +58,7 @@ offsets = tt
 
 -- what is read
 unfoldable pub declarations : Unit {0}
-unfolding noBehaviours madeVolatile madeTrigger triggerAfter behaviourAfter behaviourTurn moreBehaviours intAfter typeAfter headAfter loopWith stepIn tooMany stored widthAfter rangeTo rangeAfter extraRange extraName nextRange rangeTurn moreRanges rangesAfter closedSet setAfter parameterAfter filed rangePiece bitsTurn moreBits bracketAfter pieceAfter pieceTurn morePieces piecesAfter unexpected sizedName nameIn numberIn seenAt placeAt fixedAfter nameAfter numberAfter bitsIn worthIn valuedBy upOne noMasks counted noPort markAfter bitsAfter valueAfter offsetAfter portAfter maskAfter attributeAfter maskTurn moreMasks secondMarked restAfter registerAfter begins-of-text extraWord movedTo counted-of-text taken headWith parameterWith moreParameters registerWith variableWith declarationWith moreDeclarations parametersWith declarationsWith readingWith listed reading remade secondMarked-of-variable secondAfter restAfter-of-variable variableAfter
+unfolding noBehaviours madeVolatile madeTrigger triggerAfter behaviourAfter behaviourTurn moreBehaviours intAfter typeAfter headAfter loopWith stepIn tooMany stored widthAfter rangeTo rangeAfter nextRange rangeTurn moreRanges rangesAfter closedSet setAfter parameterAfter filed rangePiece bitsTurn moreBits bracketAfter pieceAfter pieceTurn morePieces piecesAfter unexpected sized extraAfter tokenAt tokenAfter spelledAfter enclosedAfter seenAt placeAt fixedAfter nameAfter numberAfter worthIn valuedBy upOne noMasks counted noPort markAfter valueAfter offsetAfter portAfter maskAfter attributeAfter maskTurn moreMasks secondMarked restAfter registerAfter begins-of-text movedTo counted-of-text taken headWith parameterWith moreParameters registerWith variableWith declarationWith moreDeclarations parametersWith declarationsWith readingWith listed reading remade secondMarked-of-variable secondAfter restAfter-of-variable variableAfter
 declarations = tt
 
 -- the words of tables, and the rules that they can break

@@ -14,7 +14,7 @@ use borrow.Author.Tests.{eqb-true, eq-eqb}
 use Rattle.token.specs.declared.Token.{Token}
 use Rattle.token.specs.declared.Token.the-variants.{Name, Word, Number, Bits, Sign, End, Bad}
 use Rattle.token.specs.Scan.{scanAt}
-use Rattle.token.specs.Fair.{placeOf, goesOn, Whole}
+use Rattle.token.specs.Fair.{placeOf, goesOn}
 use Rattle.token.specs.Kind.{pick, kindOf, refusedAs}
 use Rattle.token.specs.Tokens.{tokensAt}
 use Rattle.token.proofs.Laws.{passes, scan-fair}
@@ -22,10 +22,8 @@ use Rattle.token.proofs.Reading.{tokens-on, tokens-end}
 use Rattle.grammar.proofs.SetLaws.{clash}
 use Rattle.syntax.specs.declared.reader.Step.{Step}
 use Rattle.syntax.specs.declared.reader.Step.the-variants.{At, Refused}
-use Rattle.syntax.specs.declared.reader.Named.{Named}
-use Rattle.syntax.specs.Reader.{unexpected, sizedName, nameIn, seenAt, placeAt, fixedAfter, nameAfter, numberAfter}
-use Rattle.syntax.specs.Parameter.{tooMany}
-use Rattle.syntax.proofs.Follows.{number-is}
+use Rattle.syntax.specs.Reader.{unexpected, tooMany, lengthOf, sized, seenAt, placeAt, fixedAfter, extraAfter, tokenAt, spelledAfter, nameAfter, numberAfter, enclosedAfter}
+use Rattle.syntax.proofs.Follows.{lies, name-step}
 use Rattle.syntax.specs.Sizes.{Tally, tallied, longName, tooMuch, passedIn, NotBefore, Kept}
 
 pub or-false : (b : Bool) → b ≡ false → (b || false) ≡ false
@@ -60,17 +58,8 @@ module _ (text : List ℕ) where
   not-before (some x) p q h n = omega arith
 
   -- the token behind one stands behind it
-  ends-behind : (next : ℕ) (t : Token) → Whole (length text) next t → (placeOf t ≤ next) × (next ≤ length text)
-  ends-behind next (Name p n) h = omega arith
-  ends-behind next (Word p n) h = omega arith
-  ends-behind next (Number p n) h = omega arith
-  ends-behind next (Bits p n) h = omega arith
-  ends-behind next (Sign p n) h = omega arith
-  ends-behind next (End p) h = omega arith
-  ends-behind next (Bad p) h = omega arith
-
   place-rises : (at : ℕ) → placeOf (scanAt text at .token) ≤ placeOf (scanAt text (scanAt text at .next) .token)
-  place-rises at = omega (arith, ends-behind (scanAt text at .next) (scanAt text at .token) (scan-fair text at .whole), scan-fair text (scanAt text at .next) .from)
+  place-rises at = omega (arith, lies text (scanAt text at .next) (scanAt text at .token) (scan-fair text at .whole), scan-fair text (scanAt text at .next) .from)
 
   -- what is passed from a place on is not before the next token: where that is the end, and everywhere
   at-end : (c : Tally) (at : ℕ) → goesOn (scanAt text at .token) ≡ false → NotBefore (passedIn c (tokensAt text at)) (placeOf (scanAt text at .token))
@@ -156,31 +145,33 @@ module _ (text : List ℕ) where
 
     -- ---- one token that is due
 
-    module _ (k : ℕ) (c : Tally) (end : eqb 255 k ≡ false) (name : eqb 1 k ≡ false) (fits : tooMuch c k ≡ false) where
-      on-kind : (at : ℕ) → eqb (kindOf (scanAt text at .token)) k ≡ true → Agrees c (At at) → Agrees (tallied c k) (At (scanAt text at .next))
-      on-kind at i a =
-          let is : kindOf (scanAt text at .token) ≡ k = eqb-true _ k i in
-          subst (λ (n : ℕ). Agrees (tallied c n) (At (scanAt text at .next))) is
-          (agrees-on c at (goes (scanAt text at .token) k end i) (ap (λ (b : Bool). b || tooMuch c (kindOf (scanAt text at .token))) (short (scanAt text at .token) k name i) ∙ ap (tooMuch c) is ∙ fits) a)
+    -- past a token of a kind, which is no name too long
+    on-kind : (k : ℕ) (c : Tally) → eqb 255 k ≡ false → tooMuch c k ≡ false → (at : ℕ) → eqb (kindOf (scanAt text at .token)) k ≡ true → longName (scanAt text at .token) ≡ false
+        → Agrees c (At at) → Agrees (tallied c k) (At (scanAt text at .next))
+    on-kind k c end fits at i few a =
+        let is : kindOf (scanAt text at .token) ≡ k = eqb-true _ k i in
+        subst (λ (n : ℕ). Agrees (tallied c n) (At (scanAt text at .next))) is
+        (agrees-on c at (goes (scanAt text at .token) k end i) (ap (λ (b : Bool). b || tooMuch c (kindOf (scanAt text at .token))) few ∙ ap (tooMuch c) is ∙ fits) a)
 
+    module _ (k : ℕ) (c : Tally) (end : eqb 255 k ≡ false) (name : eqb 1 k ≡ false) (fits : tooMuch c k ≡ false) where
       pub agrees-tok : (s : Step) → Agrees c s → Agrees (tallied c k) (fixedAfter text k s)
       unfolding fixedAfter
       agrees-tok (Refused n p) a = refused-agrees c (tallied c k) n p a
       agrees-tok (At at) a = by (eqb (kindOf (scanAt text at .token)) k) refl
         where
           by : (b : Bool) → eqb (kindOf (scanAt text at .token)) k ≡ b → Agrees (tallied c k) (pick b (At (scanAt text at .next)) (unexpected (scanAt text at .token)))
-          by true i = on-kind at i a
+          by true i = on-kind k c end fits at i (short (scanAt text at .token) k name i) a
           by false i = agrees-unexpected c (tallied c k) at a
 
       -- past a token that was looked at
       pub agrees-past : (s : Step) → eqb (seenAt text s .kind) k ≡ true → Agrees c s → Agrees (tallied c k) (seenAt text s .past)
       unfolding seenAt
       agrees-past (Refused n p) i a = clash (eqb 255 k) i end
-      agrees-past (At at) i a = on-kind at i a
+      agrees-past (At at) i a = on-kind k c end fits at i (short (scanAt text at .token) k name i) a
 
     -- the same, by the kind of the token at a place
     pub agrees-kind : (k : ℕ) (c : Tally) → eqb 255 k ≡ false → eqb 1 k ≡ false → tooMuch c k ≡ false → (at : ℕ) → kindOf (scanAt text at .token) ≡ k → Agrees c (At at) → Agrees (tallied c k) (At (scanAt text at .next))
-    agrees-kind k c end name fits at i a = on-kind k c end name fits at (eq-eqb _ k i) a
+    agrees-kind k c end name fits at i a = on-kind k c end fits at (eq-eqb _ k i) (short (scanAt text at .token) k name (eq-eqb _ k i)) a
 
     -- a token that the count does not mind
     abbrev pub Quiet : Tally → ℕ → Type 0
@@ -189,71 +180,21 @@ module _ (text : List ℕ) where
     pub agrees-quiet : (k : ℕ) (c : Tally) → eqb 255 k ≡ false → eqb 1 k ≡ false → Quiet c k → (s : Step) → Agrees c s → Agrees c (fixedAfter text k s)
     agrees-quiet k c end name q s a = subst (λ (d : Tally). Agrees d (fixedAfter text k s)) (q .1) (agrees-tok k c end name (q .0) s a)
 
-    pub agrees-number : (c : Tally) → tooMuch c 2 ≡ false → (s : Step) → Agrees c s → Agrees (tallied c 2) (numberAfter text s .step)
-    agrees-number c fits s a = subst (λ (t : Step). Agrees (tallied c 2) t) (sym (number-is text s)) (agrees-tok 2 c refl refl fits s a)
+    -- a word, and a number between two signs, that the count does not mind
+    abbrev pub Unminded : Tally → ℕ → Type 0
+    Unminded c k = (eqb 255 k ≡ false) × (eqb 1 k ≡ false) × Quiet c k
 
-    -- ---- names
+    pub agrees-unminded : (k : ℕ) (c : Tally) → Unminded c k → (s : Step) → Agrees c s → Agrees c (fixedAfter text k s)
+    agrees-unminded k c q s a = agrees-quiet k c (q .0) (q .1) (q .2) s a
 
-    module _ (c d : Tally) (at : ℕ) (a : Agrees c (At at)) where
-      -- 3 or 4 at the token that stands there, 5 at a name that is too long or one too many, and past any other name
-      name-unexpected : (t : Token) → scanAt text at .token ≡ t → Agrees d (unexpected t)
-      name-unexpected t e = subst (λ (u : Token). Agrees d (unexpected u)) e (agrees-unexpected c d at a)
-
-      name-five : (p n : ℕ) → scanAt text at .token ≡ Name p n → (ltb 64 n || tooMuch c 1) ≡ true → Agrees d (Refused 5 p)
-      unfolding longName
-      name-five p n e h =
-          subst (λ (u : Token). Agrees d (Refused 5 (placeOf u))) e
-          (agrees-five c d at (ap goesOn e) (ap (λ (u : Token). longName u || tooMuch c (kindOf u)) e ∙ h) a)
-
-    name-in : (c : Tally) → tooMuch c 1 ≡ false → (at : ℕ) → Agrees c (At at) → (t : Token) → scanAt text at .token ≡ t → Agrees (tallied c 1) (nameIn (scanAt text at .next) t .step)
-    unfolding nameIn sizedName longName
-    name-in c fits at a (Name p n) e = by (ltb 64 n) refl
-      where
-        by : (b : Bool) → ltb 64 n ≡ b
-            → Agrees (tallied c 1) (pick {A = Named} b (record { place = p; length = n; step = Refused 5 p }) (record { place = p; length = n; step = At (scanAt text at .next) }) .step)
-        by true h = name-five c (tallied c 1) at a p n e (ap (λ (b : Bool). b || tooMuch c 1) h)
-        by false h =
-            subst (λ (u : Token). Agrees (tallied c (kindOf u)) (At (scanAt text at .next))) e
-            (agrees-on c at (ap goesOn e) (ap (λ (u : Token). longName u || tooMuch c (kindOf u)) e ∙ ap (λ (b : Bool). b || tooMuch c 1) h ∙ fits) a)
-    name-in c fits at a (Word p n) e = name-unexpected c (tallied c 1) at a (Word p n) e
-    name-in c fits at a (Number p n) e = name-unexpected c (tallied c 1) at a (Number p n) e
-    name-in c fits at a (Bits p n) e = name-unexpected c (tallied c 1) at a (Bits p n) e
-    name-in c fits at a (Sign p n) e = name-unexpected c (tallied c 1) at a (Sign p n) e
-    name-in c fits at a (End p) e = name-unexpected c (tallied c 1) at a (End p) e
-    name-in c fits at a (Bad p) e = name-unexpected c (tallied c 1) at a (Bad p) e
-
-    pub agrees-name : (c : Tally) → tooMuch c 1 ≡ false → (s : Step) → Agrees c s → Agrees (tallied c 1) (nameAfter text s .step)
-    unfolding nameAfter
-    agrees-name c fits (At at) a = name-in c fits at a (scanAt text at .token) refl
-    agrees-name c fits (Refused n p) a = refused-agrees c (tallied c 1) n p a
-
-    -- ---- one too many, of what begins with a name or with a number
-
-    extra-name-in : (c d : Tally) → tooMuch c 1 ≡ true → (at : ℕ) → Agrees c (At at) → (t : Token) → scanAt text at .token ≡ t → Agrees d (tooMany (placeOf t) (nameIn (scanAt text at .next) t .step))
-    unfolding nameIn sizedName tooMany unexpected
-    extra-name-in c d over at a (Name p n) e = by (ltb 64 n)
-      where
-        five : Agrees d (Refused 5 p)
-        five = name-five c d at a p n e (ap (λ (b : Bool). ltb 64 n || b) over ∙ or-true (ltb 64 n))
-
-        by : (b : Bool) → Agrees d (tooMany p (pick {A = Named} b (record { place = p; length = n; step = Refused 5 p }) (record { place = p; length = n; step = At (scanAt text at .next) }) .step))
-        by true = five
-        by false = five
-    extra-name-in c d over at a (Word p n) e = name-unexpected c d at a (Word p n) e
-    extra-name-in c d over at a (Number p n) e = name-unexpected c d at a (Number p n) e
-    extra-name-in c d over at a (Bits p n) e = name-unexpected c d at a (Bits p n) e
-    extra-name-in c d over at a (Sign p n) e = name-unexpected c d at a (Sign p n) e
-    extra-name-in c d over at a (End p) e = name-unexpected c d at a (End p) e
-    extra-name-in c d over at a (Bad p) e = name-unexpected c d at a (Bad p) e
-
-    pub agrees-extra-name : (c d : Tally) → tooMuch c 1 ≡ true → (s : Step) → Agrees c s → Agrees d (tooMany (placeAt text s) (nameAfter text s .step))
-    unfolding nameAfter placeAt tooMany
-    agrees-extra-name c d over (At at) a = extra-name-in c d over at a (scanAt text at .token) refl
-    agrees-extra-name c d over (Refused n p) a = refused-agrees c d n p a
+    pub agrees-enclosed : (c : Tally) (word opens closes : ℕ) → Unminded c word → Unminded c opens → Unminded c 2 → Unminded c closes
+        → (s : Step) → Agrees c s → Agrees c (enclosedAfter text word opens closes s .step)
+    unfolding enclosedAfter numberAfter
+    agrees-enclosed c word opens closes w o n e s a = agrees-unminded closes c e _ (agrees-unminded 2 c n _ (agrees-unminded opens c o _ (agrees-unminded word c w s a)))
 
     -- a token of a kind that is one too many
-    pub agrees-extra : (k : ℕ) → eqb 255 k ≡ false → (c d : Tally) → tooMuch c k ≡ true → (s : Step) → Agrees c s → Agrees d (tooMany (placeAt text s) (fixedAfter text k s))
-    unfolding placeAt tooMany fixedAfter unexpected
+    pub agrees-extra : (k : ℕ) → eqb 255 k ≡ false → (c d : Tally) → tooMuch c k ≡ true → (s : Step) → Agrees c s → Agrees d (extraAfter text k s)
+    unfolding extraAfter placeAt tooMany fixedAfter unexpected
     agrees-extra k end c d over (Refused n p) a = refused-agrees c d n p a
     agrees-extra k end c d over (At at) a = by (eqb (kindOf (scanAt text at .token)) k) refl
       where
@@ -264,8 +205,35 @@ module _ (text : List ℕ) where
             ∙ ap (λ (b : Bool). longName (scanAt text at .token) || b) over ∙ or-true (longName (scanAt text at .token))) a
         by false i = agrees-unexpected c d at a
 
-    pub agrees-extra-number : (c d : Tally) → tooMuch c 2 ≡ true → (s : Step) → Agrees c s → Agrees d (tooMany (placeAt text s) (numberAfter text s .step))
-    agrees-extra-number c d over s a = subst (λ (t : Step). Agrees d (tooMany (placeAt text s) t)) (sym (number-is text s)) (agrees-extra 2 refl c d over s a)
+    -- ---- names
+
+    -- of names the count minds the length
+    long-name : (t : Token) → eqb (kindOf t) 1 ≡ true → longName t ≡ ltb 64 (lengthOf t)
+    unfolding longName
+    long-name (Name p n) i = refl
+    long-name (Word p n) i = refl
+    long-name (Number p n) i = refl
+    long-name (Bits p n) i = clash false i refl
+    long-name (Sign p n) i = refl
+    long-name (End p) i = refl
+    long-name (Bad p) i = refl
+
+    pub agrees-name : (c : Tally) → tooMuch c 1 ≡ false → (s : Step) → Agrees c s → Agrees (tallied c 1) (nameAfter text s .step)
+    unfolding nameAfter sized spelledAfter tokenAt extraAfter placeAt tooMany fixedAfter unexpected
+    agrees-name c fits (Refused n p) a = refused-agrees c (tallied c 1) n p a
+    agrees-name c fits (At at) a =
+        by (ltb 64 (lengthOf (scanAt text at .token))) refl (eqb (kindOf (scanAt text at .token)) 1) refl
+      where
+        of : (b d : Bool) → ltb 64 (lengthOf (scanAt text at .token)) ≡ b → eqb (kindOf (scanAt text at .token)) 1 ≡ d
+            → Agrees (tallied c 1) (pick b (tooMany (placeOf (scanAt text at .token)) (pick d (At (scanAt text at .next)) (unexpected (scanAt text at .token)))) (pick d (At (scanAt text at .next)) (unexpected (scanAt text at .token))))
+        of true true e i =
+            agrees-five c (tallied c 1) at (goes (scanAt text at .token) 1 refl i) (ap (λ (b : Bool). b || tooMuch c (kindOf (scanAt text at .token))) (long-name (scanAt text at .token) i ∙ e)) a
+        of false true e i = on-kind 1 c refl fits at i (long-name (scanAt text at .token) i ∙ e) a
+        of true false e i = agrees-unexpected c (tallied c 1) at a
+        of false false e i = agrees-unexpected c (tallied c 1) at a
+
+        by : (b : Bool) → ltb 64 (lengthOf (scanAt text at .token)) ≡ b → (d : Bool) → eqb (kindOf (scanAt text at .token)) 1 ≡ d → Agrees (tallied c 1) (nameAfter text (At at) .step)
+        by b e d i = subst (λ (t : Step). Agrees (tallied c 1) t) (sym (name-step text at b e)) (rw i (of b d e i))
 
     -- ---- the end
 

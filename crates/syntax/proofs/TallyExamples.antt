@@ -12,15 +12,15 @@ use Rattle.token.specs.Sign.{longSigns, isSignByte, longSign, signNumber, longe
 use Rattle.token.specs.Scan.{isBit, badToken, nameToken, nameFrom, numberToken, numberFrom, bitsToken, bitsFrom, signToken, signHere, signFrom, tokenBy, tokenFrom, scanFrom, scanRest, scanAt}
 use Rattle.token.specs.Kind.{kindOf}
 use Rattle.token.specs.Tokens.{listed, tokensFrom}
-use Rattle.syntax.specs.KindNames.{sign, dots, 'bit', 'bool', 'device', 'int', 'mask', 'port', 'read', 'register', 'trigger', 'variable', 'volatile', 'write', 'signed'}
+use Rattle.syntax.specs.KindNames.{sign, name-kind, number-kind, bits-kind, dots, 'bit', 'bool', 'device', 'int', 'mask', 'port', 'read', 'register', 'trigger', 'variable', 'volatile', 'write', 'signed'}
 use Rattle.syntax.specs.Sizes.{ended, closed, asksOperand, onward, passesAt, nothingYet, tallied, longName, tooMuch, passedIn, passedAt}
 
--- the words and signs that are named have just these kinds, as the scanner computes them
+-- what is named has just these kinds: a name, a number, a bits literal, the words and the signs, as the scanner computes them
 pub kinds :
     map (λ (s : String). kindOf (scanAt (bytes s) 0 .token))
-    ("bit" ∷ "bool" ∷ "device" ∷ "int" ∷ "mask" ∷ "port" ∷ "read" ∷ "register" ∷ "trigger" ∷ "variable" ∷ "volatile" ∷ "write" ∷ "signed"
+    ("x" ∷ "7" ∷ "'1'" ∷ "bit" ∷ "bool" ∷ "device" ∷ "int" ∷ "mask" ∷ "port" ∷ "read" ∷ "register" ∷ "trigger" ∷ "variable" ∷ "volatile" ∷ "write" ∷ "signed"
     ∷ "(" ∷ ")" ∷ "{" ∷ "}" ∷ "[" ∷ "]" ∷ "," ∷ ";" ∷ ":" ∷ "=" ∷ "#" ∷ "@" ∷ "+" ∷ "-" ∷ "*" ∷ "/" ∷ "%" ∷ ".." ∷ [])
-    ≡ 'bit' ∷ 'bool' ∷ 'device' ∷ 'int' ∷ 'mask' ∷ 'port' ∷ 'read' ∷ 'register' ∷ 'trigger' ∷ 'variable' ∷ 'volatile' ∷ 'write' ∷ 'signed'
+    ≡ name-kind ∷ number-kind ∷ bits-kind ∷ 'bit' ∷ 'bool' ∷ 'device' ∷ 'int' ∷ 'mask' ∷ 'port' ∷ 'read' ∷ 'register' ∷ 'trigger' ∷ 'variable' ∷ 'volatile' ∷ 'write' ∷ 'signed'
     ∷ sign "(" ∷ sign ")" ∷ sign "{" ∷ sign "}" ∷ sign "[" ∷ sign "]" ∷ sign "," ∷ sign ";" ∷ sign ":" ∷ sign "=" ∷ sign "#" ∷ sign "@" ∷ sign "+" ∷ sign "-" ∷ sign "*" ∷ sign "/" ∷ sign "%" ∷ dots ∷ []
 unfolding scanAt scanRest scanFrom tokenFrom tokenBy nameFrom nameToken numberFrom numberToken bitsFrom bitsToken signFrom signHere signToken badToken isBit gapFrom isBlank isLetter isNameByte reserved wordOf digitOf isDigit valueFrom prefixed digitsOf longSigns isSignByte longSign signNumber longestSign signWidth same begins oneOf within firstTrue runFrom
 kinds = refl

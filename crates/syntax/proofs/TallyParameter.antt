@@ -2,7 +2,7 @@
 -- Assumes nothing.
 use Prim.Native.Nat.{ℕ, suc, _+_}
 use native.Mathlib.Omega.{arith}
-use mathlib.Core.Path.{_≡_, refl, sym, subst}
+use mathlib.Core.Path.{_≡_, refl, subst}
 use mathlib.Core.Bool.{Bool, true, false}
 use mathlib.Core.List.{List}
 use mathlib.Core.Option.{Option}
@@ -11,34 +11,29 @@ use lib.ListN.{length}
 use borrow.Author.Tests.{leb-true, leb-false, lt-ltb, le-ltb}
 use Rattle.syntax.specs.declared.reader.Step.{Step}
 use Rattle.syntax.specs.Reader.{seenAt, numberAfter}
-use Rattle.syntax.specs.Parameter.{Listed, widthAfter, rangeTo, rangeAfter, extraRange, nextRange, rangeTurn, moreRanges, rangesAfter, closedSet, setAfter, parameterAfter}
+use Rattle.syntax.specs.Parameter.{Listed, widthAfter, rangeTo, rangeAfter, nextRange, rangeTurn, moreRanges, rangesAfter, closedSet, setAfter, parameterAfter}
 use Rattle.syntax.specs.Sizes.{parameter, range, onward, passesAt, Tally, tallied, tooMuch}
 use Rattle.syntax.proofs.LoopSteps.{loop-keeps}
-use Rattle.syntax.proofs.Follows.{number-is}
-use Rattle.syntax.proofs.Tally.{Agrees, Quiet, agrees-tok, agrees-quiet, agrees-past, agrees-name, agrees-extra-number}
+use Rattle.syntax.proofs.Tally.{Agrees, Quiet, agrees-tok, agrees-quiet, agrees-past, agrees-enclosed, agrees-name, agrees-extra}
 
 module _ (text : List ℕ) (w : Option ℕ) where
-  -- a number that the count does not mind
-  quiet-number : (c : Tally) → Quiet text w c 2 → (s : Step) → Agrees text w c s → Agrees text w c (numberAfter text s .step)
-  quiet-number c q s a = subst (λ (t : Step). Agrees text w c t) (sym (number-is text s)) (agrees-quiet text w 2 c refl refl q s a)
-
   -- bit [ number ]
   pub agrees-width : (c : Tally) → Quiet text w c 513 → Quiet text w c 347 → Quiet text w c 2 → Quiet text w c 349 → (s : Step) → Agrees text w c s → Agrees text w c (widthAfter text s .step)
   unfolding widthAfter
   agrees-width c bit opens number closes s a =
-      agrees-quiet text w 349 c refl refl closes _ (quiet-number c number _ (agrees-quiet text w 347 c refl refl opens _ (agrees-quiet text w 513 c refl refl bit s a)))
+      agrees-enclosed text w c 513 347 349 (refl, refl, bit) (refl, refl, opens) (refl, refl, number) (refl, refl, closes) s a
 
   -- number (.. number)?
   pub agrees-range : (c : Tally) → Quiet text w c 2 → Quiet text w c 385 → (s : Step) → Agrees text w c s → Agrees text w c (rangeAfter text s .step)
-  unfolding rangeAfter rangeTo
+  unfolding rangeAfter rangeTo numberAfter
   agrees-range c number dots s a = by (eqb (seenAt text (numberAfter text s .step) .kind) 385) refl
     where
       low : Agrees text w c (numberAfter text s .step)
-      low = quiet-number c number s a
+      low = agrees-quiet text w 2 c refl refl number s a
 
       by : (b : Bool) → eqb (seenAt text (numberAfter text s .step) .kind) 385 ≡ b → Agrees text w c (rangeAfter text s .step)
       by true i =
-          rw i (quiet-number c number _ (subst (λ (d : Tally). Agrees text w d (seenAt text (numberAfter text s .step) .past)) (dots .1)
+          rw i (agrees-quiet text w 2 c refl refl number _ (subst (λ (d : Tally). Agrees text w d (seenAt text (numberAfter text s .step) .past)) (dots .1)
           (agrees-past text w 385 c refl refl (dots .0) (numberAfter text s .step) i low)))
       by false i = rw i low
 
@@ -56,11 +51,11 @@ module _ (text : List ℕ) (w : Option ℕ) where
 
     -- one more range, or one too many
     next-agrees : (n count : ℕ) (table : List ℕ) (s : Step) → ltb 16 count ≡ false → Agrees text w (inRange n (suc count)) s → Counted n (nextRange text count table s)
-    unfolding nextRange extraRange tallied tooMuch passesAt onward
+    unfolding nextRange tallied tooMuch passesAt onward
     next-agrees n count table s few a = by (leb 16 count) refl
       where
         by : (b : Bool) → leb 16 count ≡ b → Counted n (nextRange text count table s)
-        by true e = rw e (few, agrees-extra-number text w (inRange n (suc count)) (inRange n count) (lt-ltb 16 (suc count) (omega (arith, leb-true 16 count e))) s a)
+        by true e = rw e (few, agrees-extra text w 2 refl (inRange n (suc count)) (inRange n count) (lt-ltb 16 (suc count) (omega (arith, leb-true 16 count e))) s a)
         by false e =
             let fits = le-ltb 16 (suc count) (leb-false 16 count e) in
             let more : suc count ≡ count + 1 = omega arith in

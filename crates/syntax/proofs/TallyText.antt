@@ -16,13 +16,12 @@ use Rattle.syntax.specs.declared.reader.Named.{Named}
 use Rattle.syntax.specs.declared.register.Register.{Register}
 use Rattle.syntax.specs.Reader.{seenAt, fixedAfter}
 use Rattle.syntax.specs.Heading.{headAfter}
-use Rattle.syntax.specs.Parameter.{extraName}
 use Rattle.syntax.specs.Register.{registerAfter}
 use Rattle.syntax.specs.Variable.{VariableRead}
-use Rattle.syntax.specs.Text.{Declaration, aDevice, aParameter, aRegister, aVariable, Progress, begins, extraWord, movedTo, counted, taken, headWith, parameterWith, moreParameters, registerWith, variableWith, declarationWith, moreDeclarations, parametersWith, declarationsWith, readingWith}
+use Rattle.syntax.specs.Text.{Declaration, aDevice, aParameter, aRegister, aVariable, Progress, begins, movedTo, counted, taken, headWith, parameterWith, moreParameters, registerWith, variableWith, declarationWith, moreDeclarations, parametersWith, declarationsWith, readingWith}
 use Rattle.syntax.specs.Sizes.{Spot, front, parameter, body, register, piece, onward, passesAt, asksOperand, Tally, nothingYet, tallied, tooMuch, passedIn, passedAt, Kept}
 use Rattle.syntax.proofs.LoopSteps.{loop-keeps}
-use Rattle.syntax.proofs.Tally.{Agrees, refused-agrees, agrees-tok, agrees-past, agrees-name, agrees-extra, agrees-extra-name, agrees-end}
+use Rattle.syntax.proofs.Tally.{Agrees, refused-agrees, agrees-tok, agrees-past, agrees-name, agrees-extra, agrees-end}
 use Rattle.syntax.proofs.TallyParameter.{agrees-parameter}
 use Rattle.syntax.proofs.TallyRegister.{agrees-register}
 use Rattle.syntax.proofs.TallyVariable.{InVariable, agrees-variable}
@@ -60,11 +59,11 @@ module _ {X : Type 0} (judge : X → Declaration → X) (text : List ℕ) (w : O
   parameter-taken p d (Refused n q) few fits a = (few, refused-agrees text w _ _ n q a)
 
   parameter-agrees : (p : Progress X) → ltb 16 (p .parameters) ≡ false → At-spot (λ q. parameter (suc (q .parameters))) p → InHeading (parameterWith judge text p)
-  unfolding parameterWith extraName movedTo tooMuch passesAt
+  unfolding parameterWith movedTo tooMuch passesAt
   parameter-agrees p few a = by (leb 16 (p .parameters)) refl
     where
       by : (b : Bool) → leb 16 (p .parameters) ≡ b → InHeading (parameterWith judge text p)
-      by true e = rw e (few, agrees-extra-name text w (tally (p .registers) (p .variables) (parameter (suc (p .parameters)))) (tally (p .registers) (p .variables) (parameter (p .parameters))) (lt-ltb 16 (suc (p .parameters)) (omega (arith, leb-true 16 (p .parameters) e))) (p .step) a)
+      by true e = rw e (few, agrees-extra text w 1 refl (tally (p .registers) (p .variables) (parameter (suc (p .parameters)))) (tally (p .registers) (p .variables) (parameter (p .parameters))) (lt-ltb 16 (suc (p .parameters)) (omega (arith, leb-true 16 (p .parameters) e))) (p .step) a)
       by false e =
           let fits = le-ltb 16 (suc (p .parameters)) (leb-false 16 (p .parameters) e) in
           rw e (parameter-taken p _ _ few fits (agrees-parameter text w (p .registers) (p .variables) (suc (p .parameters)) fits (replicate 32 0) (p .step) a))
@@ -101,7 +100,7 @@ module _ {X : Type 0} (judge : X → Declaration → X) (text : List ℕ) (w : O
   register-taken p d (Refused n q) a = refused-agrees text w _ _ n q a
 
   register-agrees : (p : Progress X) → At-spot (λ q. body) p → At-spot (λ q. body) (registerWith judge text p)
-  unfolding registerWith extraWord movedTo asksOperand tallied tooMuch passesAt onward
+  unfolding registerWith movedTo asksOperand tallied tooMuch passesAt onward
   register-agrees p a = by (leb 64 (p .registers)) refl
     where
       by : (b : Bool) → leb 64 (p .registers) ≡ b → At-spot (λ q. body) (registerWith judge text p)
@@ -124,7 +123,7 @@ module _ {X : Type 0} (judge : X → Declaration → X) (text : List ℕ) (w : O
   ended r v s a = agrees-tok text w 315 (tally r v (piece (a .0))) refl refl (a .1) s (a .2)
 
   variable-agrees : (p : Progress X) → At-spot (λ q. body) p → At-spot (λ q. body) (variableWith judge text p)
-  unfolding variableWith extraWord movedTo tooMuch passesAt
+  unfolding variableWith movedTo tooMuch passesAt
   variable-agrees p a = by (leb 128 (p .variables)) refl
     where
       by : (b : Bool) → leb 128 (p .variables) ≡ b → At-spot (λ q. body) (variableWith judge text p)

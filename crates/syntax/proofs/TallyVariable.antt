@@ -13,14 +13,13 @@ use Rattle.syntax.specs.declared.reader.Step.{Step}
 use Rattle.syntax.specs.declared.attribute.Behaviours.{Behaviours}
 use Rattle.syntax.specs.declared.attribute.Behaved.{Behaved}
 use Rattle.syntax.specs.Reader.{seenAt, fixedAfter, nameAfter}
-use Rattle.syntax.specs.Parameter.{extraRange, extraName}
 use Rattle.syntax.specs.Register.{markAfter}
 use Rattle.syntax.specs.Attribute.{triggerAfter, behaviourAfter, behaviourTurn, moreBehaviours, intAfter, typeAfter}
 use Rattle.syntax.specs.Piece.{Filed, rangePiece, bitsTurn, moreBits, bracketAfter, pieceAfter, pieceTurn, morePieces, piecesAfter}
 use Rattle.syntax.specs.Variable.{secondMarked, secondAfter, restAfter, variableAfter}
 use Rattle.syntax.specs.Sizes.{body, piece, bracket, onward, passesAt, Tally, tallied, tooMuch}
 use Rattle.syntax.proofs.LoopSteps.{loop-keeps}
-use Rattle.syntax.proofs.Tally.{Agrees, agrees-tok, agrees-past, agrees-name, agrees-number, agrees-extra-name, agrees-extra-number, or-false}
+use Rattle.syntax.proofs.Tally.{Agrees, agrees-tok, agrees-past, agrees-name, agrees-enclosed, agrees-extra, or-false}
 use Rattle.syntax.proofs.TallyParameter.{agrees-range}
 use Rattle.syntax.proofs.TallyRegister.{agrees-mark}
 
@@ -52,11 +51,11 @@ module _ (text : List ℕ) (w : Option ℕ) (registers variables : ℕ) where
   module _ (place extent : ℕ) where
     -- a range as one more piece, or as one too many
     range-piece : (count : ℕ) (table : List ℕ) (s : Step) → ltb 8 count ≡ false → Agrees text w (inBracket (suc count)) s → Counted inBracket (rangePiece text place extent count table s)
-    unfolding rangePiece extraRange tallied tooMuch passesAt onward
+    unfolding rangePiece tallied tooMuch passesAt onward
     range-piece count table s few a = by (leb 8 count) refl
       where
         by : (b : Bool) → leb 8 count ≡ b → Counted inBracket (rangePiece text place extent count table s)
-        by true e = rw e (few, agrees-extra-number text w (inBracket (suc count)) (inBracket count) (full count e) s a)
+        by true e = rw e (few, agrees-extra text w 2 refl (inBracket (suc count)) (inBracket count) (full count e) s a)
         by false e = rw e (one-more inBracket count _ (not-full count e) (agrees-range text w (inBracket (suc count)) (not-full count e, refl) (not-full count e, refl) s a))
 
     -- (, range)*
@@ -80,14 +79,14 @@ module _ (text : List ℕ) (w : Option ℕ) (registers variables : ℕ) where
 
   -- name ([ ranges ])?
   one-piece : (count : ℕ) (table : List ℕ) (s : Step) → ltb 8 count ≡ false → Agrees text w (inPiece (suc count)) s → Counted inPiece (pieceAfter text count table s)
-  unfolding pieceAfter extraName tallied tooMuch passesAt onward
+  unfolding pieceAfter tallied tooMuch passesAt onward
   one-piece count table s few a = by (leb 8 count) refl (eqb (seenAt text (nameAfter text s .step) .kind) 347) refl
     where
       name : leb 8 count ≡ false → Agrees text w (inPiece (suc count)) (nameAfter text s .step)
       name e = agrees-name text w (inPiece (suc count)) (not-full count e) s a
 
       by : (b : Bool) → leb 8 count ≡ b → (d : Bool) → eqb (seenAt text (nameAfter text s .step) .kind) 347 ≡ d → Counted inPiece (pieceAfter text count table s)
-      by true e d i = rw e (few, agrees-extra-name text w (inPiece (suc count)) (inPiece count) (full count e) s a)
+      by true e d i = rw e (few, agrees-extra text w 1 refl (inPiece (suc count)) (inPiece count) (full count e) s a)
       by false e true i =
           rw (e, i) (in-bracket _ _ count table _ few (agrees-past text w 347 (inPiece (suc count)) refl refl (not-full count e) (nameAfter text s .step) i (name e)))
       by false e false i = rw (e, i) (one-more inPiece count _ (not-full count e) (name e))
@@ -180,9 +179,7 @@ module _ (text : List ℕ) (w : Option ℕ) (registers variables : ℕ) where
   -- int ( number )
   int : (kind n : ℕ) → ltb 8 n ≡ false → (s : Step) → Agrees text w (inPiece n) s → Agrees text w (inPiece n) (intAfter text kind s .step)
   unfolding intAfter tallied tooMuch passesAt onward
-  int kind n few s a =
-      agrees-tok text w 297 (inPiece n) refl refl few _ (agrees-number text w (inPiece n) few _
-      (agrees-tok text w 296 (inPiece n) refl refl few _ (agrees-tok text w 522 (inPiece n) refl refl few s a)))
+  int kind n few s a = agrees-enclosed text w (inPiece n) 522 296 297 (refl, refl, (few, refl)) (refl, refl, (few, refl)) (refl, refl, (few, refl)) (refl, refl, (few, refl)) s a
 
   type : (n : ℕ) → ltb 8 n ≡ false → (s : Step) → Agrees text w (inPiece n) s → Agrees text w (inPiece n) (typeAfter text s .step)
   unfolding typeAfter tallied tooMuch passesAt onward

@@ -14,14 +14,14 @@ use Rattle.syntax.proofs.KindNumbers.{'port', comma, colon, semicolon, 
 use Rattle.syntax.proofs.Factored.{rules, param, width, ranges, register-ll, variable-ll, heading, device-ll}
 use Rattle.syntax.specs.declared.reader.Step.{Step}
 use Rattle.syntax.specs.declared.reader.Step.the-variants.{At, Refused}
-use Rattle.syntax.specs.Reader.{seenAt, placeAt, fixedAfter}
+use Rattle.syntax.specs.Reader.{seenAt, fixedAfter, extraAfter}
 use Rattle.syntax.specs.Heading.{headAfter}
-use Rattle.syntax.specs.Parameter.{tooMany, extraName, parameterAfter}
+use Rattle.syntax.specs.Parameter.{parameterAfter}
 use Rattle.syntax.specs.Register.{registerAfter}
 use Rattle.syntax.specs.Variable.{variableAfter}
-use Rattle.syntax.specs.Text.{Declaration, aDevice, aParameter, aRegister, aVariable, Progress, begins, extraWord, movedTo, counted, taken, headWith, parameterWith, moreParameters, registerWith, variableWith, declarationWith, moreDeclarations, parametersWith, declarationsWith, readingWith}
+use Rattle.syntax.specs.Text.{Declaration, aDevice, aParameter, aRegister, aVariable, Progress, begins, movedTo, counted, taken, headWith, parameterWith, moreParameters, registerWith, variableWith, declarationWith, moreDeclarations, parametersWith, declarationsWith, readingWith}
 use Rattle.syntax.proofs.Follows.{Follows, Tells, kindAt, same-reader, follows-held, pick-follows, follows-seq, follows-tok, follows-name, extra-follows, extra-refuses, past-is, only, follows-loop}
-use Rattle.syntax.proofs.ParameterFollows.{follows-extra-name, follows-parameter}
+use Rattle.syntax.proofs.ParameterFollows.{follows-parameter}
 use Rattle.syntax.proofs.RegisterFollows.{follows-register}
 use Rattle.syntax.proofs.TailFollows.{alt-follows, follows-variable}
 use Rattle.syntax.proofs.Claims.{ByGrammar, whole-right}
@@ -39,7 +39,7 @@ module _ {X : Type 0} (judge : X → Declaration → X) (text : List ℕ) where
   -- ---- parameters
 
   parameter-step : (p : Progress X) (s : Step) (c : Bool) → leb 16 (p .parameters) ≡ c
-      → parameterWith judge text (movedTo p s) .step ≡ pick c (extraName text s) (parameterAfter text (replicate 32 0) s .parameter .step)
+      → parameterWith judge text (movedTo p s) .step ≡ pick c (extraAfter text 1 s) (parameterAfter text (replicate 32 0) s .parameter .step)
   unfolding parameterWith movedTo
   parameter-step p s true e = rw e
   parameter-step p s false e = rw e (taken-step _ _ _)
@@ -47,7 +47,7 @@ module _ {X : Type 0} (judge : X → Declaration → X) (text : List ℕ) where
   follows-next-parameter : (p : Progress X) → Follows text param (λ s. parameterWith judge text (movedTo p s) .step)
   follows-next-parameter p =
       same-reader text
-      (pick-follows text (leb 16 (p .parameters)) (follows-extra-name text (colon ▸ width ▸ 'port' ▸ opt (at-sign ▸ lbrace ▸ ranges ▸ rbrace))) (follows-parameter text (replicate 32 0)))
+      (pick-follows text (leb 16 (p .parameters)) (extra-follows text 1 refl (colon ▸ width ▸ 'port' ▸ opt (at-sign ▸ lbrace ▸ ranges ▸ rbrace))) (follows-parameter text (replicate 32 0)))
       (λ s. parameter-step p s (leb 16 (p .parameters)) refl)
 
   follows-more-parameters : (p : Progress X) → Follows text (many (comma ▸ param)) (λ s. moreParameters judge text (length text) (movedTo p s) .step)
@@ -82,30 +82,30 @@ module _ {X : Type 0} (judge : X → Declaration → X) (text : List ℕ) where
 
   -- ---- declarations
 
-  extra-stays : (k kind : ℕ) (s : Step) → fixedAfter text k (extraWord text kind s) ≡ extraWord text kind s
-  unfolding extraWord fixedAfter
-  extra-stays k kind s = by (extra-refuses text (placeAt text s) (fixedAfter text kind s))
+  extra-stays : (k kind : ℕ) (s : Step) → fixedAfter text k (extraAfter text kind s) ≡ extraAfter text kind s
+  unfolding fixedAfter
+  extra-stays k kind s = by (extraAfter text kind s) (extra-refuses text kind s)
     where
-      by : (n : ℕ) × (q : ℕ) × (tooMany (placeAt text s) (fixedAfter text kind s) ≡ Refused n q) → fixedAfter text k (tooMany (placeAt text s) (fixedAfter text kind s)) ≡ tooMany (placeAt text s) (fixedAfter text kind s)
-      by (n, q, e) = rw e
+      by : (t : Step) → (n : ℕ) × (q : ℕ) × (t ≡ Refused n q) → fixedAfter text k t ≡ t
+      by t (n, q, e) = rw e
 
   -- a register, a variable, and one by its first word, over steps
   registerBy : Progress X → Step → Step
-  registerBy p s = pick (leb 64 (p .registers)) (extraWord text 529 s) (registerAfter text s .step)
+  registerBy p s = pick (leb 64 (p .registers)) (extraAfter text 529 s) (registerAfter text s .step)
 
   variableBy : Progress X → Step → Step
-  variableBy p s = pick (leb 128 (p .variables)) (extraWord text 537 s) (variableAfter text (replicate 40 0) (replicate 40 0) s .variable .step)
+  variableBy p s = pick (leb 128 (p .variables)) (extraAfter text 537 s) (variableAfter text (replicate 40 0) (replicate 40 0) s .variable .step)
 
   declarationBy : Progress X → Step → Step
   declarationBy p s = pick (eqb (kindAt text s) 529) (registerBy p s) (variableBy p s)
 
   follows-register-by : (p : Progress X) → Follows text register-ll (registerBy p)
-  unfolding registerBy extraWord
-  follows-register-by p = pick-follows text (leb 64 (p .registers)) (extra-follows text 529 refl _ (follows-tok text 529 refl)) (follows-register text)
+  unfolding registerBy
+  follows-register-by p = pick-follows text (leb 64 (p .registers)) (extra-follows text 529 refl _) (follows-register text)
 
   follows-variable-by : (p : Progress X) → Follows text variable-ll (variableBy p)
-  unfolding variableBy extraWord
-  follows-variable-by p = pick-follows text (leb 128 (p .variables)) (extra-follows text 537 refl _ (follows-tok text 537 refl)) (follows-variable text (replicate 40 0) (replicate 40 0))
+  unfolding variableBy
+  follows-variable-by p = pick-follows text (leb 128 (p .variables)) (extra-follows text 537 refl _) (follows-variable text (replicate 40 0) (replicate 40 0))
 
   follows-declaration-by : (p : Progress X) → Follows text (register-ll ∣ variable-ll) (declarationBy p)
   unfolding declarationBy mem first firstWith firstOfRule nullable lookup rules
@@ -114,20 +114,17 @@ module _ {X : Type 0} (judge : X → Declaration → X) (text : List ℕ) where
       (λ s e. ap (λ (c : Bool). pick c (registerBy p s) (variableBy p s)) e)
       (λ s e. ap (λ (c : Bool). pick c (registerBy p s) (variableBy p s)) e)
 
-  register-step : (p : Progress X) (s : Step) (c : Bool) → leb 64 (p .registers) ≡ c → registerWith judge text (movedTo p s) .step ≡ fixedAfter text 315 (registerBy p s)
-  unfolding registerWith registerBy movedTo
-  register-step p s true e = rw e (sym (extra-stays 315 529 s))
-  register-step p s false e = rw e (taken-step _ _ _)
-
-  variable-step : (p : Progress X) (s : Step) (c : Bool) → leb 128 (p .variables) ≡ c → variableWith judge text (movedTo p s) .step ≡ fixedAfter text 315 (variableBy p s)
-  unfolding variableWith variableBy movedTo
-  variable-step p s true e = rw e (sym (extra-stays 315 537 s))
-  variable-step p s false e = rw e (taken-step _ _ _)
+  -- whichever it is, one that is whole or one too many, the semicolon comes last
+  ended-step : (p : Progress X) (d : Declaration) (k : ℕ) (s whole : Step) (c : Bool)
+      → pick c (movedTo p (extraAfter text k s)) (taken judge p d (fixedAfter text 315 whole)) .step ≡ fixedAfter text 315 (pick c (extraAfter text k s) whole)
+  unfolding movedTo
+  ended-step p d k s whole true = sym (extra-stays 315 k s)
+  ended-step p d k s whole false = taken-step p d (fixedAfter text 315 whole)
 
   declaration-step : (p : Progress X) (s : Step) (c : Bool) → eqb (kindAt text s) 529 ≡ c → declarationWith judge text (movedTo p s) .step ≡ fixedAfter text 315 (declarationBy p s)
-  unfolding declarationWith declarationBy movedTo
-  declaration-step p s true e = rw e (register-step p s (leb 64 (p .registers)) refl)
-  declaration-step p s false e = rw e (variable-step p s (leb 128 (p .variables)) refl)
+  unfolding declarationWith registerWith variableWith declarationBy registerBy variableBy movedTo
+  declaration-step p s true e = rw e (ended-step _ _ 529 s _ (leb 64 (p .registers)))
+  declaration-step p s false e = rw e (ended-step _ _ 537 s _ (leb 128 (p .variables)))
 
   follows-declaration : (p : Progress X) → Follows text ((register-ll ∣ variable-ll) ▸ semicolon) (λ s. declarationWith judge text (movedTo p s) .step)
   follows-declaration p = same-reader text (follows-seq text (follows-declaration-by p) (follows-tok text 315 refl)) (λ s. declaration-step p s (eqb (kindAt text s) 529) refl)

@@ -7,6 +7,16 @@ use Prim.Native.Char.{Char, code}
 abbrev pub sign : Char → ℕ
 sign c = 256 + code c
 
+-- a name, a number and a bits literal
+abbrev pub name-kind : ℕ
+name-kind = 1
+
+abbrev pub number-kind : ℕ
+number-kind = 2
+
+abbrev pub bits-kind : ℕ
+bits-kind = 3
+
 -- `..`
 abbrev pub dots : ℕ
 dots = 385

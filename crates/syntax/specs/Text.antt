@@ -11,10 +11,10 @@ use Rattle.syntax.specs.declared.reader.Named.{Named}
 use Rattle.syntax.specs.declared.register.Register.{Register}
 use Rattle.syntax.specs.declared.text.Outline.{Outline}
 use Rattle.syntax.specs.Limits.{mostParameters, mostRegisters, mostVariables}
-use Rattle.syntax.specs.KindNames.{sign, 'register', 'variable', end-kind}
-use Rattle.syntax.specs.Reader.{seenAt, placeAt, fixedAfter}
+use Rattle.syntax.specs.KindNames.{sign, name-kind, 'register', 'variable', end-kind}
+use Rattle.syntax.specs.Reader.{seenAt, fixedAfter, extraAfter}
 use Rattle.syntax.specs.Heading.{headAfter}
-use Rattle.syntax.specs.Parameter.{ParameterRead, tooMany, extraName, parameterAfter}
+use Rattle.syntax.specs.Parameter.{ParameterRead, parameterAfter}
 use Rattle.syntax.specs.Register.{registerAfter}
 use Rattle.syntax.specs.Variable.{VariableRead, variableAfter}
 use Rattle.syntax.specs.Loop.{loopWith}
@@ -37,10 +37,6 @@ pub record Progress (X : Type 0) : Type 0 where
 -- a register or a variable begins
 unfoldable pub begins : ℕ → Bool
 begins kind = eqb kind 'register' || eqb kind 'variable'
-
--- one word too many
-unfoldable pub extraWord : List ℕ → ℕ → Step → Step
-extraWord text kind from = tooMany (placeAt text from) (fixedAfter text kind from)
 
 unfoldable pub movedTo : {X : Type 0} → Progress X → Step → Progress X
 movedTo p s = record { parameters = p .parameters; registers = p .registers; variables = p .variables; made = p .made; step = s }
@@ -74,7 +70,7 @@ module _ {X : Type 0} (judge : X → Declaration → X) where
     unfoldable pub parameterWith : Progress X → Progress X
     parameterWith p =
         let one : ParameterRead = parameterAfter text (replicate 32 0) (p .step) in
-        pick (leb mostParameters (p .parameters)) (movedTo p (extraName text (p .step)))
+        pick (leb mostParameters (p .parameters)) (movedTo p (extraAfter text name-kind (p .step)))
         (taken p (aParameter one) (one .parameter .step))
 
     -- (, param)*
@@ -85,14 +81,14 @@ module _ {X : Type 0} (judge : X → Declaration → X) where
     unfoldable pub registerWith : Progress X → Progress X
     registerWith p =
         let one : Register = registerAfter text (p .step) in
-        pick (leb mostRegisters (p .registers)) (movedTo p (extraWord text 'register' (p .step)))
+        pick (leb mostRegisters (p .registers)) (movedTo p (extraAfter text 'register' (p .step)))
         (taken p (aRegister one) (fixedAfter text (sign ";") (one .step)))
 
     -- variable ;  with room for eight pieces of five words in each list
     unfoldable pub variableWith : Progress X → Progress X
     variableWith p =
         let one : VariableRead = variableAfter text (replicate 40 0) (replicate 40 0) (p .step) in
-        pick (leb mostVariables (p .variables)) (movedTo p (extraWord text 'variable' (p .step)))
+        pick (leb mostVariables (p .variables)) (movedTo p (extraAfter text 'variable' (p .step)))
         (taken p (aVariable one) (fixedAfter text (sign ";") (one .variable .step)))
 
     -- a declaration ; by its first word

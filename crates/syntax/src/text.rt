@@ -7,7 +7,9 @@ use crate::register;
 use crate::variable;
 ghost use mathlib.Core.Path.{_≡_};
 ghost use lib.ListN.{length};
-ghost use Rattle.syntax.specs.Text.{begins, extraWord, movedTo, idle, bare, headWith, parameterWith, moreParameters, registerWith, variableWith, declarationWith, moreDeclarations, parametersWith, declarationsWith, reading, outlined};
+ghost use Rattle.syntax.specs.Text.{begins, movedTo, idle, bare, headWith, parameterWith, moreParameters, registerWith, variableWith, declarationWith, moreDeclarations, parametersWith, declarationsWith, reading, outlined};
+
+const NAME: u16 = 1;
 
 const REGISTER: u16 = 529;
 
@@ -45,18 +47,6 @@ fn moved(outline: Outline, step: Step) -> Outline
     }
 }
 
-// Where there are as many registers or variables as there may be: one more is refusal 5 at its word.
-pub fn extra_word(text: &[u8], kind: u16, from: Step) -> Step
-    ensures { λ r. ⌜ r ≡ extraWord (now (text .entry)) kind from ⌝ }
-{
-    let after = reader::fixed_after(text, kind, from);
-    let Step::At(_) = after else {
-        return after;
-    };
-    let place = reader::place_at(text, from);
-    Step::Refused(5, place)
-}
-
 // device name (
 fn head_next(text: &[u8], outline: Outline) -> Outline
     ensures { λ r. ⌜ r ≡ outlined (headWith idle (now (text .entry)) (bare outline)) ⌝ }
@@ -72,7 +62,7 @@ fn parameter_next(text: &[u8], outline: Outline) -> Outline
 {
     let from = outline.step;
     if 16 <= outline.parameters {
-        let extra = parameter::extra_name(text, from);
+        let extra = reader::extra_after(text, NAME, from);
         return moved(outline, extra);
     }
     let mut table = [0u32; 32];
@@ -114,7 +104,7 @@ fn register_next(text: &[u8], outline: Outline) -> Outline
 {
     let from = outline.step;
     if 64 <= outline.registers {
-        let extra = extra_word(text, REGISTER, from);
+        let extra = reader::extra_after(text, REGISTER, from);
         return moved(outline, extra);
     }
     let one = register::register_after(text, from);
@@ -136,7 +126,7 @@ fn variable_next(text: &[u8], outline: Outline) -> Outline
 {
     let from = outline.step;
     if 128 <= outline.variables {
-        let extra = extra_word(text, VARIABLE, from);
+        let extra = reader::extra_after(text, VARIABLE, from);
         return moved(outline, extra);
     }
     let mut first = [0usize; 40];

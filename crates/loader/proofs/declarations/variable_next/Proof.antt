@@ -14,15 +14,15 @@ use borrow.Author.Needs.{needs}
 use Rattle.loader.proofs.declarations.variable_next.Statement.{statement}
 use Rattle.loader.proofs.declarations.variable_next.Tie as tie
 
-extra-word-requires : tie.Need-extra-word-requires
-extra-word-requires c κs = search needs
+extra-after-requires : tie.Need-extra-after-requires
+extra-after-requires c κs = search needs
 
 moved-requires : tie.Need-moved-requires
 moved-requires c κs = search needs
 
 returns : tie.Need-returns
 unfolding variableWith progressOf
-returns c = (moved-to _ _ _ _ _ (c .moved .ensures) ∙ rw (le-leb _ _ (c .before .before .if1 .taken), c .before .extra-word .ensures), ready-still [] _ _ _ _ _ (c .moved .ensures) (c .before .before .before .before .before .before .before .before .before .before .before .before .before .before .pre))
+returns c = (moved-to _ _ _ _ _ (c .moved .ensures) ∙ rw (le-leb _ _ (c .before .before .if1 .taken), c .before .extra-after .ensures), ready-still [] _ _ _ _ _ (c .moved .ensures) (c .before .before .before .before .before .before .before .before .before .before .before .before .before .before .pre))
 
 slice-aggregate-variable-after : tie.Need-slice-aggregate-variable-after
 slice-aggregate-variable-after c = search needs
@@ -97,7 +97,7 @@ pub variable-next-spec : {M : Type 1} → statement M
 variable-next-spec =
     tie.close
     (tie.spec
-    extra-word-requires
+    extra-after-requires
     moved-requires
     returns
     slice-aggregate-variable-after

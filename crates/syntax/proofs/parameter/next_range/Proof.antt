@@ -5,12 +5,12 @@ use borrow.Author.Needs.{needs}
 use Rattle.syntax.proofs.parameter.next_range.Statement.{statement}
 use Rattle.syntax.proofs.parameter.next_range.Tie as tie
 
-extra-range-requires : tie.Need-extra-range-requires
-extra-range-requires c κs = search needs
+extra-after-requires : tie.Need-extra-after-requires
+extra-after-requires c κs = search needs
 
 returns : tie.Need-returns
 unfolding nextRange
-returns c = rw (nextRange, le-leb _ _ (c .before .if1 .taken), ← c .extra-range .ensures) (refl, refl)
+returns c = rw (nextRange, le-leb _ _ (c .before .if1 .taken), ← c .extra-after .ensures) (refl, refl)
 
 range-after-requires : tie.Need-range-after-requires
 range-after-requires c κs = search needs
@@ -32,7 +32,7 @@ pub next-range-spec : {M : Type 1} → statement M
 next-range-spec =
     tie.close
     (tie.spec
-    extra-range-requires
+    extra-after-requires
     returns
     range-after-requires
     store-range-requires

@@ -4,15 +4,15 @@ use borrow.Author.Needs.{needs}
 use Rattle.syntax.proofs.text.parameter_next.Statement.{statement}
 use Rattle.syntax.proofs.text.parameter_next.Tie as tie
 
-extra-name-requires : tie.Need-extra-name-requires
-extra-name-requires c κs = search needs
+extra-after-requires : tie.Need-extra-after-requires
+extra-after-requires c κs = search needs
 
 moved-requires : tie.Need-moved-requires
 moved-requires c κs = search needs
 
 returns : tie.Need-returns
 unfolding parameterWith movedTo bare outlined
-returns c = rw (parameterWith, le-leb _ _ (c .before .before .if1 .taken), ← c .before .extra-name .ensures) (c .moved .ensures)
+returns c = rw (parameterWith, le-leb _ _ (c .before .before .if1 .taken), ← c .before .extra-after .ensures) (c .moved .ensures)
 
 slice-aggregate-parameter-after : tie.Need-slice-aggregate-parameter-after
 slice-aggregate-parameter-after c = search needs
@@ -44,7 +44,7 @@ pub parameter-next-spec : {M : Type 1} → statement M
 parameter-next-spec =
     tie.close
     (tie.spec
-    extra-name-requires
+    extra-after-requires
     moved-requires
     returns
     slice-aggregate-parameter-after

@@ -4,15 +4,15 @@ use borrow.Author.Needs.{needs}
 use Rattle.syntax.proofs.text.register_next.Statement.{statement}
 use Rattle.syntax.proofs.text.register_next.Tie as tie
 
-extra-word-requires : tie.Need-extra-word-requires
-extra-word-requires c κs = search needs
+extra-after-requires : tie.Need-extra-after-requires
+extra-after-requires c κs = search needs
 
 moved-requires : tie.Need-moved-requires
 moved-requires c κs = search needs
 
 returns : tie.Need-returns
 unfolding registerWith movedTo bare outlined
-returns c = rw (registerWith, le-leb _ _ (c .before .before .if1 .taken), ← c .before .extra-word .ensures) (c .moved .ensures)
+returns c = rw (registerWith, le-leb _ _ (c .before .before .if1 .taken), ← c .before .extra-after .ensures) (c .moved .ensures)
 
 register-after-requires : tie.Need-register-after-requires
 register-after-requires c κs = search needs
@@ -44,7 +44,7 @@ pub register-next-spec : {M : Type 1} → statement M
 register-next-spec =
     tie.close
     (tie.spec
-    extra-word-requires
+    extra-after-requires
     moved-requires
     returns
     register-after-requires

@@ -4,15 +4,15 @@ use borrow.Author.Needs.{needs}
 use Rattle.syntax.proofs.text.variable_next.Statement.{statement}
 use Rattle.syntax.proofs.text.variable_next.Tie as tie
 
-extra-word-requires : tie.Need-extra-word-requires
-extra-word-requires c κs = search needs
+extra-after-requires : tie.Need-extra-after-requires
+extra-after-requires c κs = search needs
 
 moved-requires : tie.Need-moved-requires
 moved-requires c κs = search needs
 
 returns : tie.Need-returns
 unfolding variableWith movedTo bare outlined
-returns c = rw (variableWith, le-leb _ _ (c .before .before .if1 .taken), ← c .before .extra-word .ensures) (c .moved .ensures)
+returns c = rw (variableWith, le-leb _ _ (c .before .before .if1 .taken), ← c .before .extra-after .ensures) (c .moved .ensures)
 
 slice-aggregate-variable-after : tie.Need-slice-aggregate-variable-after
 slice-aggregate-variable-after c = search needs
@@ -50,7 +50,7 @@ pub variable-next-spec : {M : Type 1} → statement M
 variable-next-spec =
     tie.close
     (tie.spec
-    extra-word-requires
+    extra-after-requires
     moved-requires
     returns
     slice-aggregate-variable-after
