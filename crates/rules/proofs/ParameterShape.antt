@@ -11,7 +11,8 @@ use lib.Seq.{getD-set-other}
 use borrow.Author.Tests.{le-leb, leb-true, leb-false}
 use Rattle.syntax.specs.declared.reader.Step.{Step}
 use Rattle.syntax.specs.Reader.{seenAt, fixedAfter}
-use Rattle.syntax.specs.Parameter.{Listed, ParameterRead, stored, rangeAfter, nextRange, rangeTurn, moreRanges, rangesAfter, closedSet, setAfter, parameterAfter}
+use Rattle.syntax.specs.Items.{Filed, unlessFull, closedBy, itemTurn, moreItems, itemsAfter}
+use Rattle.syntax.specs.Parameter.{ParameterRead, stored, rangeAfter, nextRange, rangesAfter, setAfter, parameterAfter}
 use Rattle.tables.specs.Words.{countOf, rangeCount, parameterAt}
 use Rattle.tables.specs.Rules.{parameterShape}
 use Rattle.tables.proofs.ZeroLaws.{zeros-are}
@@ -45,14 +46,14 @@ more-ranged n low high table r =
     }
 
 -- what was read of a parameter's set
-record Set (least : ℕ) (l : Listed) : Type 0 where
-  some : least ≤ l .ranges .count
-  few : l .ranges .count ≤ 16
-  ranged : Ranged (l .ranges .count) (l .table)
+record Set (least : ℕ) (l : Filed) : Type 0 where
+  some : least ≤ l .listed .count
+  few : l .listed .count ≤ 16
+  ranged : Ranged (l .listed .count) (l .table)
 
 module _ (text : List ℕ) where
   next-set : (count : ℕ) (table : List ℕ) (s : Step) → count ≤ 16 → Ranged count table → Set 1 (nextRange text count table s)
-  unfolding nextRange
+  unfolding nextRange unlessFull
   next-set count table s h r = by (leb 16 count) refl
     where
       by : (b : Bool) → leb 16 count ≡ b → Set 1 (nextRange text count table s)
@@ -66,15 +67,15 @@ module _ (text : List ℕ) where
           })
 
   ranges-set : (table : List ℕ) (s : Step) → Ranged 0 table → Set 1 (rangesAfter text table s)
-  unfolding rangesAfter moreRanges rangeTurn
+  unfolding rangesAfter itemsAfter moreItems itemTurn
   ranges-set table s r =
       let one = next-set 0 table s (omega arith) r in
-      loop-keeps text (λ l. l .ranges .step) (λ kind. eqb kind 300) (rangeTurn text) (Set 1)
-      (λ l e h. next-set (l .ranges .count) (l .table) (seenAt text (l .ranges .step) .past) (h .few) (h .ranged)) (length text) _
+      loop-keeps text (λ l. l .listed .step) (λ kind. eqb kind 300) (itemTurn text (nextRange text) 300) (Set 1)
+      (λ l e h. next-set (l .listed .count) (l .table) (seenAt text (l .listed .step) .past) (h .few) (h .ranged)) (length text) _
       (record { some = one .some; few = one .few; ranged = one .ranged })
 
   set-read : (s : Step) → Set 1 (setAfter text (replicate 32 0) s)
-  unfolding setAfter closedSet
+  unfolding setAfter closedBy
   set-read s = by (eqb (seenAt text s .kind) 320) refl
     where
       by : (b : Bool) → eqb (seenAt text s .kind) 320 ≡ b → Set 1 (setAfter text (replicate 32 0) s)

@@ -1,10 +1,12 @@
 -- The turns of a loop, once for all of them.
 -- Assumes nothing.
-use Prim.Native.Nat.{ℕ, zero, suc, _+_, _<_}
+use Prim.Native.Nat.{ℕ, zero, suc, _+_, _-_, _≤_, _<_}
 use native.Mathlib.Omega.{arith}
 use mathlib.Core.Path.{_≡_, refl, sym, ap, _∙_, subst}
 use mathlib.Core.Bool.{Bool, true, false}
 use mathlib.Core.List.{List}
+use lib.Dec.{eqb}
+use borrow.Author.Tests.{eq-eqb, ne-eqb}
 use Rattle.syntax.specs.declared.reader.Step.{Step}
 use Rattle.syntax.specs.declared.reader.Seen.{Seen}
 use Rattle.syntax.specs.Reader.{seenAt}
@@ -32,6 +34,17 @@ module _ {P : Type 0} (text : List ℕ) (step : P → Step) (tells : ℕ → Boo
     pub turn-on : (left : ℕ) (q : P) → room ≡ suc left → tells (seen .kind) ≡ true → q ≡ turn p → loopWith text step tells turn room p ≡ loopWith text step tells turn left q
     turn-on left q z e t =
         ap (λ (n : ℕ). loopWith text step tells turn n p) z ∙ loop-on left p (ap (λ (y : Seen). tells (y .kind)) (sym s) ∙ e) ∙ ap (loopWith text step tells turn left) (sym t)
+
+-- a loop whose turns one sign tells, over what the calls of a turn answered: `whole` is what the loop comes to
+module _ {P : Type 0} (text : List ℕ) (step : P → Step) (kind : ℕ) (turn : P → P) (room : ℕ) (p : P) {whole : P} (is : whole ≡ loopWith text step (λ k. eqb k kind) turn room p) where
+  pub sign-full : room ≤ 0 → p ≡ whole
+  sign-full z = sym (is ∙ loop-full text step (λ k. eqb k kind) turn room p (omega arith))
+
+  pub sign-end : {seen : Seen} → seen ≡ seenAt text (step p) → (seen .kind ≡ kind → ⊥) → p ≡ whole
+  sign-end {seen} s e = sym (is ∙ turn-end text step (λ k. eqb k kind) turn p seen s room (ne-eqb _ _ e))
+
+  pub sign-on : {seen : Seen} {q : P} → seen ≡ seenAt text (step p) → 0 < room → seen .kind ≡ kind → q ≡ turn p → whole ≡ loopWith text step (λ k. eqb k kind) turn (room - 1) q
+  sign-on {seen} {q} s z e t = is ∙ turn-on text step (λ k. eqb k kind) turn p seen s room (room - 1) q (omega arith) (eq-eqb _ _ e) t
 
 -- what every turn keeps, a loop keeps
 pub loop-keeps : {P : Type 0} (text : List ℕ) (step : P → Step) (tells : ℕ → Bool) (turn : P → P) (I : P → Type 0)

@@ -1,25 +1,26 @@
 -- The variable's readers agree with the count of sizes.
 -- Assumes nothing.
-use Prim.Native.Nat.{ℕ, suc, _+_}
-use native.Mathlib.Omega.{arith}
-use mathlib.Core.Path.{_≡_, refl, subst}
+use Prim.Native.Nat.{ℕ, suc}
+use mathlib.Core.Path.{_≡_, refl}
 use mathlib.Core.Bool.{Bool, true, false}
 use mathlib.Core.List.{List}
 use mathlib.Core.Option.{Option}
-use lib.Dec.{eqb, leb, ltb}
+use lib.Dec.{eqb, ltb}
 use lib.ListN.{length}
-use borrow.Author.Tests.{leb-true, leb-false, lt-ltb, le-ltb}
 use Rattle.syntax.specs.declared.reader.Step.{Step}
 use Rattle.syntax.specs.declared.attribute.Behaviours.{Behaviours}
 use Rattle.syntax.specs.declared.attribute.Behaved.{Behaved}
 use Rattle.syntax.specs.Reader.{seenAt, fixedAfter, nameAfter}
 use Rattle.syntax.specs.Register.{markAfter}
 use Rattle.syntax.specs.Attribute.{triggerAfter, behaviourAfter, behaviourTurn, moreBehaviours, intAfter, typeAfter}
-use Rattle.syntax.specs.Piece.{Filed, rangePiece, bitsTurn, moreBits, bracketAfter, pieceAfter, pieceTurn, morePieces, piecesAfter}
+use Rattle.syntax.specs.declared.reader.Named.{Named}
+use Rattle.syntax.specs.Items.{closedBy}
+use Rattle.syntax.specs.Piece.{rangePiece, bracketAfter, namedPiece, pieceAfter, piecesAfter}
+use Rattle.syntax.proofs.TallyItems.{Counted, one-more, agrees-unless-full, agrees-items}
 use Rattle.syntax.specs.Variable.{secondMarked, secondAfter, restAfter, variableAfter}
 use Rattle.syntax.specs.Sizes.{body, piece, bracket, onward, passesAt, Tally, tallied, tooMuch}
 use Rattle.syntax.proofs.LoopSteps.{loop-keeps}
-use Rattle.syntax.proofs.Tally.{Agrees, agrees-tok, agrees-past, agrees-name, agrees-enclosed, agrees-extra, or-false}
+use Rattle.syntax.proofs.Tally.{Agrees, agrees-tok, agrees-past, agrees-name, agrees-enclosed, or-false}
 use Rattle.syntax.proofs.TallyParameter.{agrees-range}
 use Rattle.syntax.proofs.TallyRegister.{agrees-mark}
 
@@ -31,81 +32,47 @@ module _ (text : List ℕ) (w : Option ℕ) (registers variables : ℕ) where
   abbrev inBracket : ℕ → Tally
   inBracket n = record { registers = registers; variables = variables; spot = bracket n }
 
-  -- pieces as far as they are read: no more than eight, and as many as the count says
-  abbrev Counted : (ℕ → Tally) → Filed → Type 0
-  Counted within f = (ltb 8 (f .pieces .count) ≡ false) × Agrees text w (within (f .pieces .count)) (f .pieces .step)
-
-  not-full : (count : ℕ) → leb 8 count ≡ false → ltb 8 (suc count) ≡ false
-  not-full count e = le-ltb 8 (suc count) (leb-false 8 count e)
-
-  full : (count : ℕ) → leb 8 count ≡ true → ltb 8 (suc count) ≡ true
-  full count e = lt-ltb 8 (suc count) (omega (arith, leb-true 8 count e))
-
-  -- one more piece has been read
-  one-more : (within : ℕ → Tally) (count : ℕ) (s : Step) → ltb 8 (suc count) ≡ false → Agrees text w (within (suc count)) s → (ltb 8 (count + 1) ≡ false) × Agrees text w (within (count + 1)) s
-  one-more within count s fits a =
-      subst (λ (n : ℕ). (ltb 8 n ≡ false) × Agrees text w (within n) s) (let e : suc count ≡ count + 1 = omega arith in e) (fits, a)
-
   -- ---- in brackets
 
   module _ (place extent : ℕ) where
     -- a range as one more piece, or as one too many
-    range-piece : (count : ℕ) (table : List ℕ) (s : Step) → ltb 8 count ≡ false → Agrees text w (inBracket (suc count)) s → Counted inBracket (rangePiece text place extent count table s)
+    range-piece : (count : ℕ) (table : List ℕ) (s : Step) → ltb 8 count ≡ false → Agrees text w (inBracket (suc count)) s → Counted text w 8 inBracket (rangePiece text place extent count table s)
     unfolding rangePiece tallied tooMuch passesAt onward
-    range-piece count table s few a = by (leb 8 count) refl
-      where
-        by : (b : Bool) → leb 8 count ≡ b → Counted inBracket (rangePiece text place extent count table s)
-        by true e = rw e (few, agrees-extra text w 2 refl (inBracket (suc count)) (inBracket count) (full count e) s a)
-        by false e = rw e (one-more inBracket count _ (not-full count e) (agrees-range text w (inBracket (suc count)) (not-full count e, refl) (not-full count e, refl) s a))
-
-    -- (, range)*
-    more-bits : (room count : ℕ) (table : List ℕ) (s : Step) → ltb 8 count ≡ false → Agrees text w (inBracket count) s → Counted inBracket (moreBits text place extent room count table s)
-    unfolding moreBits bitsTurn tallied tooMuch passesAt onward
-    more-bits room count table s few a =
-        loop-keeps text (λ (f : Filed). f .pieces .step) (λ kind. eqb kind 300) (bitsTurn text place extent) (Counted inBracket)
-        (λ f i a. range-piece (f .pieces .count) (f .table) (seenAt text (f .pieces .step) .past) (a .0)
-        (agrees-past text w 300 (inBracket (f .pieces .count)) refl refl (a .0) (f .pieces .step) i (a .1)))
-        room (record { pieces = record { count = count; step = s }; table = table }) (few, a)
+    range-piece count table s few a =
+        agrees-unless-full text w 8 inBracket 2 refl (λ n e. e) count table s _ few a
+        (λ fits. one-more text w 8 inBracket count _ fits (agrees-range text w (inBracket (suc count)) (fits, refl) (fits, refl) s a))
 
     -- range (, range)* ]
-    in-bracket : (count : ℕ) (table : List ℕ) (s : Step) → ltb 8 count ≡ false → Agrees text w (inBracket (suc count)) s → Counted inPiece (bracketAfter text place extent count table s)
-    unfolding bracketAfter tallied tooMuch passesAt onward
+    in-bracket : (count : ℕ) (table : List ℕ) (s : Step) → ltb 8 count ≡ false → Agrees text w (inBracket (suc count)) s → Counted text w 8 inPiece (bracketAfter text place extent count table s)
+    unfolding bracketAfter closedBy tallied tooMuch passesAt onward
     in-bracket count table s few a =
-        let one = range-piece count table s few a in
-        let all = more-bits (length text) _ _ _ (one .0) (one .1) in
+        let all =
+        agrees-items text w 8 inBracket (rangePiece text place extent) 300 range-piece (λ n s few i a. agrees-past text w 300 (inBracket n) refl refl few s i a) count table s few a in
         (all .0, agrees-tok text w 349 (inBracket _) refl refl (all .0) _ (all .1))
 
   -- ---- a list
 
-  -- name ([ ranges ])?
-  one-piece : (count : ℕ) (table : List ℕ) (s : Step) → ltb 8 count ≡ false → Agrees text w (inPiece (suc count)) s → Counted inPiece (pieceAfter text count table s)
-  unfolding pieceAfter tallied tooMuch passesAt onward
-  one-piece count table s few a = by (leb 8 count) refl (eqb (seenAt text (nameAfter text s .step) .kind) 347) refl
+  -- ([ ranges ])?, behind the name
+  named-piece : (count : ℕ) (table : List ℕ) (name : Named) → ltb 8 count ≡ false → ltb 8 (suc count) ≡ false → Agrees text w (inPiece (suc count)) (name .step)
+      → Counted text w 8 inPiece (namedPiece text count table name)
+  unfolding namedPiece tallied tooMuch passesAt onward
+  named-piece count table name few fits a = by (eqb (seenAt text (name .step) .kind) 347) refl
     where
-      name : leb 8 count ≡ false → Agrees text w (inPiece (suc count)) (nameAfter text s .step)
-      name e = agrees-name text w (inPiece (suc count)) (not-full count e) s a
+      by : (d : Bool) → eqb (seenAt text (name .step) .kind) 347 ≡ d → Counted text w 8 inPiece (namedPiece text count table name)
+      by true i = rw i (in-bracket _ _ count table _ few (agrees-past text w 347 (inPiece (suc count)) refl refl fits (name .step) i a))
+      by false i = rw i (one-more text w 8 inPiece count _ fits a)
 
-      by : (b : Bool) → leb 8 count ≡ b → (d : Bool) → eqb (seenAt text (nameAfter text s .step) .kind) 347 ≡ d → Counted inPiece (pieceAfter text count table s)
-      by true e d i = rw e (few, agrees-extra text w 1 refl (inPiece (suc count)) (inPiece count) (full count e) s a)
-      by false e true i =
-          rw (e, i) (in-bracket _ _ count table _ few (agrees-past text w 347 (inPiece (suc count)) refl refl (not-full count e) (nameAfter text s .step) i (name e)))
-      by false e false i = rw (e, i) (one-more inPiece count _ (not-full count e) (name e))
-
-  -- (# piece)*
-  more-pieces : (room count : ℕ) (table : List ℕ) (s : Step) → ltb 8 count ≡ false → Agrees text w (inPiece count) s → Counted inPiece (morePieces text room count table s)
-  unfolding morePieces pieceTurn tallied tooMuch passesAt onward
-  more-pieces room count table s few a =
-      loop-keeps text (λ (f : Filed). f .pieces .step) (λ kind. eqb kind 291) (pieceTurn text) (Counted inPiece)
-      (λ f i a. one-piece (f .pieces .count) (f .table) (seenAt text (f .pieces .step) .past) (a .0)
-      (agrees-past text w 291 (inPiece (f .pieces .count)) refl refl (a .0) (f .pieces .step) i (a .1)))
-      room (record { pieces = record { count = count; step = s }; table = table }) (few, a)
+  -- name ([ ranges ])?
+  one-piece : (count : ℕ) (table : List ℕ) (s : Step) → ltb 8 count ≡ false → Agrees text w (inPiece (suc count)) s → Counted text w 8 inPiece (pieceAfter text count table s)
+  unfolding pieceAfter tallied tooMuch passesAt onward
+  one-piece count table s few a =
+      agrees-unless-full text w 8 inPiece 1 refl (λ n e. e) count table s _ few a
+      (λ fits. named-piece count table (nameAfter text s) few fits (agrees-name text w (inPiece (suc count)) fits s a))
 
   -- THE PIECES OF A LIST
-  pub agrees-pieces : (table : List ℕ) (s : Step) → Agrees text w (inPiece 1) s → Counted inPiece (piecesAfter text table s)
-  unfolding piecesAfter
-  agrees-pieces table s a =
-      let one = one-piece 0 table s refl a in
-      more-pieces (length text) _ _ _ (one .0) (one .1)
+  pub agrees-pieces : (table : List ℕ) (s : Step) → Agrees text w (inPiece 1) s → Counted text w 8 inPiece (piecesAfter text table s)
+  unfolding piecesAfter tallied tooMuch passesAt onward
+  agrees-pieces table s a = agrees-items text w 8 inPiece (pieceAfter text) 291 one-piece (λ n s few i a. agrees-past text w 291 (inPiece n) refl refl few s i a) 0 table s refl a
 
   -- ---- what follows a list
 
@@ -113,8 +80,8 @@ module _ (text : List ℕ) (w : Option ℕ) (registers variables : ℕ) where
   abbrev pub InVariable : Step → Type 0
   InVariable s = (n : ℕ) × (ltb 8 n ≡ false) × Agrees text w (inPiece n) s
 
-  in-list : (table : List ℕ) (s : Step) → Agrees text w (inPiece 1) s → InVariable (piecesAfter text table s .pieces .step)
-  in-list table s a = let all = agrees-pieces table s a in (piecesAfter text table s .pieces .count, all .0, all .1)
+  in-list : (table : List ℕ) (s : Step) → Agrees text w (inPiece 1) s → InVariable (piecesAfter text table s .listed .step)
+  in-list table s a = let all = agrees-pieces table s a in (piecesAfter text table s .listed .count, all .0, all .1)
 
   -- rw?, where a list or an attribute begins
   marked : (s : Step) → Agrees text w (inPiece 1) s → Agrees text w (inPiece 1) (markAfter text s .step)
