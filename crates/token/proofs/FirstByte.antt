@@ -13,7 +13,7 @@ use Rattle.token.specs.Sign.{longSigns, isSignByte}
 use Rattle.token.specs.Fair.{placeOf}
 use Rattle.token.specs.Lexeme.{some, isIdent, isDecimal, isInteger, isBitsLiteral, isSign, isLexeme, NoneLonger, Longest}
 use Rattle.token.specs.declared.Scanned.{Scanned}
-use Rattle.token.proofs.Bools.{within-low}
+use Rattle.token.proofs.Bools.{within-both}
 use Rattle.token.proofs.Table.{at}
 use Rattle.token.proofs.Lexemes.{none, noneFirst, not-one, no-entry}
 
@@ -28,8 +28,8 @@ unfolding isLetter
 above x e = go (within 65 90 x) refl
   where
     go : (b : Bool) → within 65 90 x ≡ b → 65 ≤ x
-    go true t = within-low 65 90 x t
-    go false t = let h : within 97 122 x ≡ true = rw t at e in omega (arith, within-low 97 122 x h)
+    go true t = within-both 65 90 x t .0
+    go false t = let h : within 97 122 x ≡ true = rw t at e in omega (arith, within-both 97 122 x h .0)
 
 pub no-decimal : (x : ℕ) → 58 ≤ x → isDecimal x ≡ false
 unfolding isDecimal within
@@ -85,7 +85,7 @@ module _ (x : ℕ) (s : List ℕ) where
   pub number-lexeme : isLetter x ≡ false → isDecimal x ≡ true → isLexeme (x ∷ s) ≡ isInteger (x ∷ s)
   unfolding isLexeme isDecimal
   number-lexeme l e =
-      rw (no-ident l, no-bits (ne-eqb x 39 (omega (arith, within-low 48 57 x e))), no-sign isDecimal decimal-free x e s) (simp or-false)
+      rw (no-ident l, no-bits (ne-eqb x 39 (omega (arith, within-both 48 57 x e .0))), no-sign isDecimal decimal-free x e s) (simp or-false)
 
   pub bits-lexeme : isLetter x ≡ false → isDecimal x ≡ false → eqb x 39 ≡ true → isLexeme (x ∷ s) ≡ isBitsLiteral (x ∷ s)
   unfolding isLexeme isQuote

@@ -15,7 +15,7 @@ use Rattle.token.specs.Word.{isLetter}
 use Rattle.token.specs.Number.{digitOf, isDigit, valueFrom, largest, prefixed, digitsOf}
 use Rattle.token.specs.Scan.{badToken, numberToken, numberFrom}
 use Rattle.token.specs.Lexeme.{many, some, isDecimal, isHexadecimal, isOctal, isInteger, valueOf, isLexeme, NoneLonger}
-use Rattle.token.proofs.Bools.{either, either-by, le-or-lt, within-low, within-high}
+use Rattle.token.proofs.Bools.{either, either-by, le-or-lt, within-both}
 use Rattle.token.proofs.Table.{at}
 use Rattle.token.proofs.Numbers.{hexadecimal, octal, decimal}
 use Rattle.token.proofs.RunSteps.{run-from, run-ahead}
@@ -39,7 +39,7 @@ unfolding isDigit digitOf isDecimal
 digit-ten x = go (within 48 57 x) refl
   where
     go : (b : Bool) → within 48 57 x ≡ b → ltb (digitOf x) 10 ≡ within 48 57 x
-    go true t = rw (t, digitOf) (lt-ltb (x - 48) 10 (omega (arith, within-high 48 57 x t)))
+    go true t = rw (t, digitOf) (lt-ltb (x - 48) 10 (omega (arith, within-both 48 57 x t .1)))
     go false t = le-ltb (digitOf x) 10 (other-digit x t) ∙ sym t
 
 digit-eight : (x : ℕ) → isDigit 8 x ≡ isOctal x
@@ -49,21 +49,21 @@ digit-eight x = go (within 48 57 x) refl
     go : (b : Bool) → within 48 57 x ≡ b → ltb (digitOf x) 8 ≡ within 48 55 x
     go true t =
         rw (t, digitOf)
-        (⊎-elim (λ small. lt-ltb (x - 48) 8 (omega arith) ∙ sym (within-true 48 55 x (within-low 48 57 x t) small))
-        (λ large. le-ltb (x - 48) 8 (omega arith) ∙ sym (not-true (within 48 55 x) (λ e. omega (arith, within-high 48 55 x e))))
+        (⊎-elim (λ small. lt-ltb (x - 48) 8 (omega arith) ∙ sym (within-true 48 55 x (within-both 48 57 x t .0) small))
+        (λ large. le-ltb (x - 48) 8 (omega arith) ∙ sym (not-true (within 48 55 x) (λ e. omega (arith, within-both 48 55 x e .1))))
         (le-or-lt x 55))
     go false t =
         le-ltb (digitOf x) 8 (omega (arith, other-digit x t))
-        ∙ sym (not-true (within 48 55 x) (λ e. false≢true (sym t ∙ within-true 48 57 x (within-low 48 55 x e) (omega (arith, within-high 48 55 x e)))))
+        ∙ sym (not-true (within 48 55 x) (λ e. false≢true (sym t ∙ within-true 48 57 x (within-both 48 55 x e .0) (omega (arith, within-both 48 55 x e .1)))))
 
 digit-sixteen : (x : ℕ) → isDigit 16 x ≡ isHexadecimal x
 unfolding isDigit digitOf isHexadecimal
 digit-sixteen x = go (within 48 57 x) (within 65 70 x) (within 97 102 x) refl refl refl
   where
     go : (a b c : Bool) → within 48 57 x ≡ a → within 65 70 x ≡ b → within 97 102 x ≡ c → ltb (digitOf x) 16 ≡ (within 48 57 x || within 65 70 x || within 97 102 x)
-    go true b c t u w = rw (t, digitOf) (lt-ltb (x - 48) 16 (omega (arith, within-high 48 57 x t)))
-    go false true c t u w = rw (t, u, digitOf) (lt-ltb (x - 65 + 10) 16 (omega (arith, within-high 65 70 x u)))
-    go false false true t u w = rw (t, u, w, digitOf) (lt-ltb (x - 97 + 10) 16 (omega (arith, within-high 97 102 x w)))
+    go true b c t u w = rw (t, digitOf) (lt-ltb (x - 48) 16 (omega (arith, within-both 48 57 x t .1)))
+    go false true c t u w = rw (t, u, digitOf) (lt-ltb (x - 65 + 10) 16 (omega (arith, within-both 65 70 x u .1)))
+    go false false true t u w = rw (t, u, w, digitOf) (lt-ltb (x - 97 + 10) 16 (omega (arith, within-both 97 102 x w .1)))
     go false false false t u w = rw (t, u, w, digitOf)
 
 -- the digits of a slice have the value of the digits there

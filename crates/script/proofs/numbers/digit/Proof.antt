@@ -1,21 +1,21 @@
 -- `script::numbers::digit` meets its contract. Assumes nothing.
 use Rattle.token.specs.Number.{digitOf}
 use Rattle.token.specs.Bytes.{within}
-use Rattle.token.proofs.Bools.{within-low}
+use Rattle.token.proofs.Bools.{within-both}
 use borrow.Author.Needs.{needs}
 use Rattle.script.proofs.numbers.digit.Statement.{statement}
 use Rattle.script.proofs.numbers.digit.Tie as tie
 
 sub-result : tie.Need-sub-result
 unfolding within
-sub-result c = within-low _ _ _ (c .if1 .taken)
+sub-result c = within-both _ _ _ (c .if1 .taken) .0
 
 cast-result : tie.Need-cast-result
 cast-result c = search needs
 
 sub-result-2 : tie.Need-sub-result-2
 unfolding within
-sub-result-2 c = within-low _ _ _ (c .if2 .taken)
+sub-result-2 c = within-both _ _ _ (c .if2 .taken) .0
 
 add-result : tie.Need-add-result
 add-result c = search needs
@@ -25,7 +25,7 @@ cast-result-2 c = search needs
 
 sub-result-3 : tie.Need-sub-result-3
 unfolding within
-sub-result-3 c = within-low _ _ _ (c .if3 .taken)
+sub-result-3 c = within-both _ _ _ (c .if3 .taken) .0
 
 add-result-2 : tie.Need-add-result-2
 add-result-2 c = search needs
