@@ -8,7 +8,7 @@ use mathlib.Core.Bool.{Bool, true, false, _||_, or-true}
 use mathlib.Core.Logic.{_⊎_, inl, inr}
 use mathlib.Core.List.{List, [], _∷_}
 use mathlib.Core.Option.{Option, none, some}
-use lib.Dec.{eqb, ltb}
+use lib.Dec.{eqb}
 use lib.ListN.{length}
 use borrow.Author.Tests.{eqb-true, eq-eqb}
 use Rattle.token.specs.declared.Token.{Token}
@@ -22,8 +22,8 @@ use Rattle.token.proofs.Reading.{tokens-on, tokens-end}
 use Rattle.grammar.proofs.SetLaws.{clash}
 use Rattle.syntax.specs.declared.reader.Step.{Step}
 use Rattle.syntax.specs.declared.reader.Step.the-variants.{At, Refused}
-use Rattle.syntax.specs.Reader.{unexpected, tooMany, lengthOf, sized, seenAt, placeAt, fixedAfter, extraAfter, tokenAt, spelledAfter, nameAfter, numberAfter, enclosedAfter}
-use Rattle.syntax.proofs.Follows.{lies, name-step}
+use Rattle.syntax.specs.Reader.{unexpected, tooMany, nameIn, seenAt, placeAt, fixedAfter, extraAfter, tokenAt, tokenAfter, nameAfter, numberAfter, enclosedAfter}
+use Rattle.syntax.proofs.Follows.{lies, long-is-name}
 use Rattle.syntax.specs.Sizes.{Tally, tallied, longName, tooMuch, passedIn, NotBefore, Kept}
 
 pub or-false : (b : Bool) → b ≡ false → (b || false) ≡ false
@@ -207,33 +207,17 @@ module _ (text : List ℕ) where
 
     -- ---- names
 
-    -- of names the count minds the length
-    long-name : (t : Token) → eqb (kindOf t) 1 ≡ true → longName t ≡ ltb 64 (lengthOf t)
-    unfolding longName
-    long-name (Name p n) i = refl
-    long-name (Word p n) i = refl
-    long-name (Number p n) i = refl
-    long-name (Bits p n) i = clash false i refl
-    long-name (Sign p n) i = refl
-    long-name (End p) i = refl
-    long-name (Bad p) i = refl
-
     pub agrees-name : (c : Tally) → tooMuch c 1 ≡ false → (s : Step) → Agrees c s → Agrees (tallied c 1) (nameAfter text s .step)
-    unfolding nameAfter sized spelledAfter tokenAt extraAfter placeAt tooMany fixedAfter unexpected
+    unfolding nameAfter nameIn tokenAfter tokenAt longName fixedAfter
     agrees-name c fits (Refused n p) a = refused-agrees c (tallied c 1) n p a
-    agrees-name c fits (At at) a =
-        by (ltb 64 (lengthOf (scanAt text at .token))) refl (eqb (kindOf (scanAt text at .token)) 1) refl
+    agrees-name c fits (At at) a = by (longName (scanAt text at .token)) refl (eqb (kindOf (scanAt text at .token)) 1) refl
       where
-        of : (b d : Bool) → ltb 64 (lengthOf (scanAt text at .token)) ≡ b → eqb (kindOf (scanAt text at .token)) 1 ≡ d
-            → Agrees (tallied c 1) (pick b (tooMany (placeOf (scanAt text at .token)) (pick d (At (scanAt text at .next)) (unexpected (scanAt text at .token)))) (pick d (At (scanAt text at .next)) (unexpected (scanAt text at .token))))
-        of true true e i =
-            agrees-five c (tallied c 1) at (goes (scanAt text at .token) 1 refl i) (ap (λ (b : Bool). b || tooMuch c (kindOf (scanAt text at .token))) (long-name (scanAt text at .token) i ∙ e)) a
-        of false true e i = on-kind 1 c refl fits at i (long-name (scanAt text at .token) i ∙ e) a
-        of true false e i = agrees-unexpected c (tallied c 1) at a
-        of false false e i = agrees-unexpected c (tallied c 1) at a
-
-        by : (b : Bool) → ltb 64 (lengthOf (scanAt text at .token)) ≡ b → (d : Bool) → eqb (kindOf (scanAt text at .token)) 1 ≡ d → Agrees (tallied c 1) (nameAfter text (At at) .step)
-        by b e d i = subst (λ (t : Step). Agrees (tallied c 1) t) (sym (name-step text at b e)) (rw i (of b d e i))
+        by : (b : Bool) → longName (scanAt text at .token) ≡ b → (d : Bool) → eqb (kindOf (scanAt text at .token)) 1 ≡ d
+            → Agrees (tallied c 1) (pick b (Refused 5 (placeOf (scanAt text at .token))) (pick d (At (scanAt text at .next)) (unexpected (scanAt text at .token))))
+        by true e d i =
+            agrees-five c (tallied c 1) at (goes (scanAt text at .token) 1 refl (long-is-name text (scanAt text at .token) e)) (ap (λ (b : Bool). b || tooMuch c (kindOf (scanAt text at .token))) e) a
+        by false e true i = on-kind 1 c refl fits at i e a
+        by false e false i = agrees-unexpected c (tallied c 1) at a
 
     -- ---- the end
 

@@ -10,7 +10,7 @@ use lib.ListN.{length}
 use Rattle.syntax.specs.declared.reader.Step.{Step}
 use Rattle.syntax.specs.declared.register.Masks.{Masks}
 use Rattle.syntax.specs.declared.register.Masked.{Masked}
-use Rattle.syntax.specs.Reader.{seenAt, fixedAfter, spelledAfter}
+use Rattle.syntax.specs.Reader.{seenAt, fixedAfter, bitsAfter}
 use Rattle.syntax.specs.Register.{markAfter, offsetAfter, portAfter, maskAfter, attributeAfter, maskTurn, moreMasks, secondMarked, restAfter, registerAfter}
 use Rattle.syntax.specs.Sizes.{body, register, asksOperand, onward, passesAt, Tally, tallied, tooMuch}
 use Rattle.syntax.proofs.LoopSteps.{loop-keeps}
@@ -57,7 +57,7 @@ module _ (text : List ℕ) (w : Option ℕ) where
 
     -- mask bits
     agrees-mask : (masks : Masks) (mark : ℕ) (s : Step) → Agrees text w inRegister s → Agrees text w inRegister (maskAfter text masks mark s .step)
-    unfolding maskAfter spelledAfter asksOperand tallied tooMuch passesAt onward
+    unfolding maskAfter bitsAfter asksOperand tallied tooMuch passesAt onward
     agrees-mask masks mark s a = agrees-tok text w 3 inRegister refl refl refl _ (agrees-tok text w 523 inRegister refl refl refl s a)
 
     marked : (s : Step) → Agrees text w inRegister s → Agrees text w inRegister (markAfter text s .step)
