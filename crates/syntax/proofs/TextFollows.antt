@@ -22,8 +22,9 @@ use Rattle.syntax.specs.Variable.{variableAfter}
 use Rattle.syntax.specs.Text.{Declaration, aDevice, aParameter, aRegister, aVariable, Progress, begins, movedTo, counted, taken, headWith, parameterWith, moreParameters, registerWith, variableWith, declarationWith, moreDeclarations, parametersWith, declarationsWith, readingWith}
 use Rattle.syntax.proofs.Follows.{Follows, Tells, kindAt, same-reader, follows-held, pick-follows, follows-seq, follows-tok, follows-name, extra-follows, extra-refuses, past-is, only, follows-loop}
 use Rattle.syntax.proofs.ParameterFollows.{follows-parameter}
+use Rattle.syntax.proofs.AltFollows.{alt-follows}
 use Rattle.syntax.proofs.RegisterFollows.{follows-register}
-use Rattle.syntax.proofs.TailFollows.{alt-follows, follows-variable}
+use Rattle.syntax.proofs.TailFollows.{follows-variable}
 use Rattle.syntax.proofs.Claims.{ByGrammar, whole-right}
 
 module _ {X : Type 0} (judge : X → Declaration → X) (text : List ℕ) where
