@@ -6,7 +6,6 @@ use Rattle.station.specs.Station.{openFault}
 use Rattle.station.proofs.Laws.{comes-first, next-decides}
 use Rattle.station.proofs.opening.open_fault.Statement.{statement}
 use Rattle.station.proofs.opening.open_fault.Tie as tie
-use Rattle.logic.proofs.Tests.{failed, passed}
 
 fault-requires : tie.Need-fault-requires
 fault-requires c κs = search needs
