@@ -73,13 +73,14 @@ pub record Leaves (after : After) (kept marks : List ℕ) (turn : Turn) : Type 0
   pub kept-is : kept ≡ after .kept
   pub marks-is : marks ≡ after .marks
 
--- what the station's call leaves and answers, with as much of the record and the marks as is lent; the rest of both stays
+-- the session after the station's call, and its answer
 abbrev pub answered : Session → Answer → Operation → Turn
 answered session answer operation =
     turnOf (sessionOf (session .opened || isOpened answer) (session .bytes) (session .marks) operation) (Answered answer)
 
-abbrev pub came : Session → Came → ℕ → ℕ → List ℕ → List ℕ → After
-came session o held marked kept marks =
+-- the call had as much of the record and the marks as is lent; the rest of both stays
+abbrev pub leftBy : Session → Came → ℕ → ℕ → List ℕ → List ℕ → After
+leftBy session o held marked kept marks =
     record {
       kept = o .state .kept ++ drop held kept;
       marks = o .state .marks ++ drop marked marks;
@@ -96,7 +97,7 @@ markedBy t marks session request =
 
 unfoldable pub askedWith : Tables → List ℕ → List ℕ → List ℕ → Session → Request → ℕ → ℕ → After
 askedWith t power kept marks session request held marked =
-    came session (requested t power (lent (take held kept) (take marked marks) (session .operation)) request) held marked kept marks
+    leftBy session (requested t power (lent (take held kept) (take marked marks) (session .operation)) request) held marked kept marks
 
 unfoldable pub asked : Tables → List ℕ → List ℕ → List ℕ → Session → Request → After
 asked t power kept marks session request =

@@ -136,16 +136,8 @@ fn outcome_of(
 {
     match request {
         Request::Open(count) => {
-            let first = front(power, count);
-            station::open(
-                parameters,
-                registers,
-                variables,
-                first,
-                held,
-                marks,
-                in_hand,
-            )
+            let used = front(power, count);
+            station::open(parameters, registers, variables, used, held, marks, in_hand)
         }
         Request::Read(v) => {
             station::begin_read(parameters, registers, variables, held, marks, in_hand, v)
