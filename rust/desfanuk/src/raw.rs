@@ -28,172 +28,160 @@ pub struct Tables<'t> {
     pub variables: &'t [u32],
 }
 
-// A slice passes as a pointer and a length.
-extern "C" {
-    fn desfanuk_load(
-        text: *const u8,
-        text_len: usize,
-        parameters: *mut u32,
-        parameters_len: usize,
-        registers: *mut u32,
-        registers_len: usize,
-        variables: *mut u32,
-        variables_len: usize,
-        answer: *mut u64,
-        answer_len: usize,
-    ) -> u32;
-
-    fn desfanuk_lookup(
-        text: *const u8,
-        text_len: usize,
-        variables: *const u32,
-        variables_len: usize,
-        name: *const u8,
-        name_len: usize,
-    ) -> i64;
-
-    fn desfanuk_sound(
-        parameters: *const u32,
-        parameters_len: usize,
-        registers: *const u32,
-        registers_len: usize,
-        variables: *const u32,
-        variables_len: usize,
-    ) -> u32;
-
-    fn desfanuk_open(
-        parameters: *const u32,
-        parameters_len: usize,
-        registers: *const u32,
-        registers_len: usize,
-        variables: *const u32,
-        variables_len: usize,
-        power: *const u8,
-        power_len: usize,
-        held: *mut u8,
-        held_len: usize,
-        marks: *mut u8,
-        marks_len: usize,
-        operation: *mut u64,
-        operation_len: usize,
-        answer: *mut i64,
-        answer_len: usize,
-    ) -> u64;
-
-    fn desfanuk_begin_read(
-        parameters: *const u32,
-        parameters_len: usize,
-        registers: *const u32,
-        registers_len: usize,
-        variables: *const u32,
-        variables_len: usize,
-        held: *const u8,
-        held_len: usize,
-        marks: *const u8,
-        marks_len: usize,
-        operation: *mut u64,
-        operation_len: usize,
-        variable: usize,
-        answer: *mut i64,
-        answer_len: usize,
-    ) -> u64;
-
-    fn desfanuk_begin_write(
-        parameters: *const u32,
-        parameters_len: usize,
-        registers: *const u32,
-        registers_len: usize,
-        variables: *const u32,
-        variables_len: usize,
-        held: *const u8,
-        held_len: usize,
-        marks: *const u8,
-        marks_len: usize,
-        operation: *mut u64,
-        operation_len: usize,
-        variable: usize,
-        value: i64,
-        answer: *mut i64,
-        answer_len: usize,
-    ) -> u64;
-
-    fn desfanuk_confirm(
-        parameters: *const u32,
-        parameters_len: usize,
-        registers: *const u32,
-        registers_len: usize,
-        variables: *const u32,
-        variables_len: usize,
-        held: *mut u8,
-        held_len: usize,
-        marks: *mut u8,
-        marks_len: usize,
-        operation: *mut u64,
-        operation_len: usize,
-        byte: u8,
-        answer: *mut i64,
-        answer_len: usize,
-    ) -> u64;
-
-    fn desfanuk_abandon(
-        parameters: *const u32,
-        parameters_len: usize,
-        registers: *const u32,
-        registers_len: usize,
-        variables: *const u32,
-        variables_len: usize,
-        held: *const u8,
-        held_len: usize,
-        marks: *mut u8,
-        marks_len: usize,
-        operation: *mut u64,
-        operation_len: usize,
-        answer: *mut i64,
-        answer_len: usize,
-    ) -> u64;
+// For each declaration a function of Rust, which calls the one of C: to that a slice passes as a
+// pointer and a length. The three tables are taken as one.
+//
+// The parameters go one by one from the first list to three others: what the function takes, what
+// the one of C takes, and what is passed to it.
+macro_rules! calls {
+    ($($(#[$doc:meta])* $seen:vis $call:ident: fn $c:ident($($declared:tt)*) -> $result:ty;)*) => {
+        $(calls! { @($(#[$doc])* $seen $call $c $result) [$($declared)*] [] [] [] })*
+    };
+    (@$call:tt [parameters: &[u32], registers: &[u32], variables: &[u32], $($more:tt)*]
+        [] [] []) => {
+        calls! {
+            @$call [$($more)*]
+            [tables: Tables<'_>,]
+            [_: *const u32, _: usize, _: *const u32, _: usize, _: *const u32, _: usize,]
+            [
+                tables.parameters.as_ptr(), tables.parameters.len(),
+                tables.registers.as_ptr(), tables.registers.len(),
+                tables.variables.as_ptr(), tables.variables.len(),
+            ]
+        }
+    };
+    (@$call:tt [$slice:ident: &mut [$word:ty], $($more:tt)*]
+        [$($taken:tt)*] [$($c:tt)*] [$($passed:tt)*]) => {
+        calls! {
+            @$call [$($more)*]
+            [$($taken)* $slice: &mut [$word],]
+            [$($c)* _: *mut $word, _: usize,]
+            [$($passed)* $slice.as_mut_ptr(), $slice.len(),]
+        }
+    };
+    (@$call:tt [$slice:ident: &[$word:ty], $($more:tt)*]
+        [$($taken:tt)*] [$($c:tt)*] [$($passed:tt)*]) => {
+        calls! {
+            @$call [$($more)*]
+            [$($taken)* $slice: &[$word],]
+            [$($c)* _: *const $word, _: usize,]
+            [$($passed)* $slice.as_ptr(), $slice.len(),]
+        }
+    };
+    (@$call:tt [$number:ident: $kind:ty, $($more:tt)*]
+        [$($taken:tt)*] [$($c:tt)*] [$($passed:tt)*]) => {
+        calls! {
+            @$call [$($more)*]
+            [$($taken)* $number: $kind,]
+            [$($c)* _: $kind,]
+            [$($passed)* $number,]
+        }
+    };
+    (@($(#[$doc:meta])* $seen:vis $call:ident $name:ident $result:ty) []
+        [$($taken:tt)*] [$($c:tt)*] [$($passed:tt)*]) => {
+        $(#[$doc])*
+        $seen fn $call($($taken)*) -> $result {
+            extern "C" {
+                fn $name($($c)*) -> $result;
+            }
+            unsafe { $name($($passed)*) }
+        }
+    };
 }
 
-// The calls have no `requires`: any slices and any numbers may be passed. They write inside the
-// slices that are lent as `&mut` alone, and keep none of the pointers.
+// The declarations are those of crates/abi. They have no `requires`: any slices and any numbers may
+// be passed. They write inside the slices that are lent as `&mut` alone, and keep none of the
+// pointers.
+calls! {
+    /// Loads a text into the tables; the verdict is told in the words of `answer`, as far as they
+    /// go. Gives the refusal's number, or 0.
+    pub load: fn desfanuk_load(
+        text: &[u8],
+        parameters: &mut [u32],
+        registers: &mut [u32],
+        variables: &mut [u32],
+        answer: &mut [u64],
+    ) -> u32;
 
-/// Loads a text into the tables; the verdict is told in the words of `verdict`, as far as they go.
-/// Gives the refusal's number, or 0.
-pub fn load(
-    text: &[u8],
-    parameters: &mut [u32],
-    registers: &mut [u32],
-    variables: &mut [u32],
-    verdict: &mut [u64],
-) -> u32 {
-    unsafe {
-        desfanuk_load(
-            text.as_ptr(),
-            text.len(),
-            parameters.as_mut_ptr(),
-            parameters.len(),
-            registers.as_mut_ptr(),
-            registers.len(),
-            variables.as_mut_ptr(),
-            variables.len(),
-            verdict.as_mut_ptr(),
-            verdict.len(),
-        )
-    }
+    /// The index of the variable of this name, or -1.
+    index: fn desfanuk_lookup(
+        text: &[u8],
+        variables: &[u32],
+        name: &[u8],
+    ) -> i64;
+
+    /// 1 where no call of the station refuses these tables by 20, and 0 where every call does.
+    soundness: fn desfanuk_sound(
+        parameters: &[u32],
+        registers: &[u32],
+        variables: &[u32],
+    ) -> u32;
+
+    /// An opening. As every call of the station it tells its answer in the words of `answer`, as far
+    /// as they go, and gives the refusal's number, or 0.
+    pub open: fn desfanuk_open(
+        parameters: &[u32],
+        registers: &[u32],
+        variables: &[u32],
+        power: &[u8],
+        held: &mut [u8],
+        marks: &mut [u8],
+        operation: &mut [u64],
+        answer: &mut [i64],
+    ) -> u64;
+
+    /// Begins the read of a variable.
+    pub begin_read: fn desfanuk_begin_read(
+        parameters: &[u32],
+        registers: &[u32],
+        variables: &[u32],
+        held: &[u8],
+        marks: &[u8],
+        operation: &mut [u64],
+        variable: usize,
+        answer: &mut [i64],
+    ) -> u64;
+
+    /// Begins the write of a variable.
+    pub begin_write: fn desfanuk_begin_write(
+        parameters: &[u32],
+        registers: &[u32],
+        variables: &[u32],
+        held: &[u8],
+        marks: &[u8],
+        operation: &mut [u64],
+        variable: usize,
+        value: i64,
+        answer: &mut [i64],
+    ) -> u64;
+
+    /// Confirms the access on offer; the byte is what was read, and for a write it is ignored.
+    pub confirm: fn desfanuk_confirm(
+        parameters: &[u32],
+        registers: &[u32],
+        variables: &[u32],
+        held: &mut [u8],
+        marks: &mut [u8],
+        operation: &mut [u64],
+        byte: u8,
+        answer: &mut [i64],
+    ) -> u64;
+
+    /// Abandons the operation in hand.
+    pub abandon: fn desfanuk_abandon(
+        parameters: &[u32],
+        registers: &[u32],
+        variables: &[u32],
+        held: &[u8],
+        marks: &mut [u8],
+        operation: &mut [u64],
+        answer: &mut [i64],
+    ) -> u64;
 }
 
 /// The index of the variable of this name.
 pub fn lookup(text: &[u8], variables: &[u32], name: &[u8]) -> Option<usize> {
-    let answer = unsafe {
-        desfanuk_lookup(
-            text.as_ptr(),
-            text.len(),
-            variables.as_ptr(),
-            variables.len(),
-            name.as_ptr(),
-            name.len(),
-        )
-    };
-    match answer {
+    match index(text, variables, name) {
         -1 => None,
         index => Some(usize::try_from(index).expect("an index")),
     }
@@ -201,177 +189,9 @@ pub fn lookup(text: &[u8], variables: &[u32], name: &[u8]) -> Option<usize> {
 
 /// Whether no call of the station refuses these tables by 20.
 pub fn sound(tables: Tables<'_>) -> bool {
-    let (p, r, v) = (tables.parameters, tables.registers, tables.variables);
-    let answer = unsafe {
-        desfanuk_sound(
-            p.as_ptr(),
-            p.len(),
-            r.as_ptr(),
-            r.len(),
-            v.as_ptr(),
-            v.len(),
-        )
-    };
-    match answer {
+    match soundness(tables) {
         0 => false,
         1 => true,
         other => panic!("desfanuk_sound answered {other}"),
-    }
-}
-
-/// An opening. As every call of the station it tells its answer in the words of `answer`, as far as
-/// they go, and gives the refusal's number, or 0.
-pub fn open(
-    tables: Tables<'_>,
-    power: &[u8],
-    held: &mut [u8],
-    marks: &mut [u8],
-    operation: &mut [u64],
-    answer: &mut [i64],
-) -> u64 {
-    let (p, r, v) = (tables.parameters, tables.registers, tables.variables);
-    unsafe {
-        desfanuk_open(
-            p.as_ptr(),
-            p.len(),
-            r.as_ptr(),
-            r.len(),
-            v.as_ptr(),
-            v.len(),
-            power.as_ptr(),
-            power.len(),
-            held.as_mut_ptr(),
-            held.len(),
-            marks.as_mut_ptr(),
-            marks.len(),
-            operation.as_mut_ptr(),
-            operation.len(),
-            answer.as_mut_ptr(),
-            answer.len(),
-        )
-    }
-}
-
-/// Begins the read of a variable.
-pub fn begin_read(
-    tables: Tables<'_>,
-    held: &[u8],
-    marks: &[u8],
-    operation: &mut [u64],
-    variable: usize,
-    answer: &mut [i64],
-) -> u64 {
-    let (p, r, v) = (tables.parameters, tables.registers, tables.variables);
-    unsafe {
-        desfanuk_begin_read(
-            p.as_ptr(),
-            p.len(),
-            r.as_ptr(),
-            r.len(),
-            v.as_ptr(),
-            v.len(),
-            held.as_ptr(),
-            held.len(),
-            marks.as_ptr(),
-            marks.len(),
-            operation.as_mut_ptr(),
-            operation.len(),
-            variable,
-            answer.as_mut_ptr(),
-            answer.len(),
-        )
-    }
-}
-
-/// Begins the write of a variable.
-pub fn begin_write(
-    tables: Tables<'_>,
-    held: &[u8],
-    marks: &[u8],
-    operation: &mut [u64],
-    variable: usize,
-    value: i64,
-    answer: &mut [i64],
-) -> u64 {
-    let (p, r, v) = (tables.parameters, tables.registers, tables.variables);
-    unsafe {
-        desfanuk_begin_write(
-            p.as_ptr(),
-            p.len(),
-            r.as_ptr(),
-            r.len(),
-            v.as_ptr(),
-            v.len(),
-            held.as_ptr(),
-            held.len(),
-            marks.as_ptr(),
-            marks.len(),
-            operation.as_mut_ptr(),
-            operation.len(),
-            variable,
-            value,
-            answer.as_mut_ptr(),
-            answer.len(),
-        )
-    }
-}
-
-/// Confirms the access on offer; the byte is what was read, and for a write it is ignored.
-pub fn confirm(
-    tables: Tables<'_>,
-    held: &mut [u8],
-    marks: &mut [u8],
-    operation: &mut [u64],
-    byte: u8,
-    answer: &mut [i64],
-) -> u64 {
-    let (p, r, v) = (tables.parameters, tables.registers, tables.variables);
-    unsafe {
-        desfanuk_confirm(
-            p.as_ptr(),
-            p.len(),
-            r.as_ptr(),
-            r.len(),
-            v.as_ptr(),
-            v.len(),
-            held.as_mut_ptr(),
-            held.len(),
-            marks.as_mut_ptr(),
-            marks.len(),
-            operation.as_mut_ptr(),
-            operation.len(),
-            byte,
-            answer.as_mut_ptr(),
-            answer.len(),
-        )
-    }
-}
-
-/// Abandons the operation in hand.
-pub fn abandon(
-    tables: Tables<'_>,
-    held: &[u8],
-    marks: &mut [u8],
-    operation: &mut [u64],
-    answer: &mut [i64],
-) -> u64 {
-    let (p, r, v) = (tables.parameters, tables.registers, tables.variables);
-    unsafe {
-        desfanuk_abandon(
-            p.as_ptr(),
-            p.len(),
-            r.as_ptr(),
-            r.len(),
-            v.as_ptr(),
-            v.len(),
-            held.as_ptr(),
-            held.len(),
-            marks.as_mut_ptr(),
-            marks.len(),
-            operation.as_mut_ptr(),
-            operation.len(),
-            answer.as_mut_ptr(),
-            answer.len(),
-        )
     }
 }

@@ -46,7 +46,8 @@ fn result_of(rest: &str) -> &str {
     rest.trim().trim_start_matches("-> ").trim_end_matches(';')
 }
 
-/// A parameter as Rattle writes it. A slice passes as a pointer and a length.
+/// A parameter as Rattle writes it, and `calls!` of src/raw.rs after it. A slice passes as a pointer
+/// and a length.
 fn of_rattle(parameter: &str) -> String {
     let (name, kind) = parameter.split_once(": ").expect("a type");
     let pointer = |kind: &str, constant: &str| {
@@ -57,18 +58,6 @@ fn of_rattle(parameter: &str) -> String {
         pointer(kind, "")
     } else if let Some(kind) = kind.strip_prefix("&[") {
         pointer(kind, "const ")
-    } else {
-        format!("{kind} {name}")
-    }
-}
-
-/// A parameter as Rust writes it.
-fn of_rust(parameter: &str) -> String {
-    let (name, kind) = parameter.split_once(": ").expect("a type");
-    if let Some(kind) = kind.strip_prefix("*const ") {
-        format!("const {kind} *{name}")
-    } else if let Some(kind) = kind.strip_prefix("*mut ") {
-        format!("{kind} *{name}")
     } else {
         format!("{kind} {name}")
     }
@@ -98,11 +87,11 @@ fn in_rattle() -> Declarations {
 
 fn in_rust() -> Declarations {
     let (_, block) = include_str!("../src/raw.rs")
-        .split_once("extern \"C\" {")
+        .split_once("\ncalls! {")
         .expect("the declarations");
     let (block, _) = block.split_once("\n}").expect("their end");
     after(block, "fn ")
-        .map(|[name, parameters, rest]| declared(name, parameters, of_rust, result_of(rest)))
+        .map(|[name, parameters, rest]| declared(name, parameters, of_rattle, result_of(rest)))
         .collect()
 }
 
