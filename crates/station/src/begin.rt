@@ -2,9 +2,9 @@
 ghost use mathlib.Core.Path.{_≡_};
 ghost use Prim.Native.Nat.{_<_};
 ghost use Rattle.station.specs.Standing.{tablesOf};
-ghost use Rattle.station.specs.Station.{busy, beginFault};
+ghost use Rattle.station.specs.Station.{beginFault};
 ghost use Rattle.tables.specs.View.{sound};
-ghost use Rattle.station.specs.Calls.{beginRead, beginWrite};
+ghost use Rattle.station.specs.Calls.{isInHand, beginRead, beginWrite};
 ghost use Rattle.station.specs.Promise.{lent, Meets};
 use crate::Operation;
 use crate::Outcome;
@@ -19,7 +19,7 @@ use crate::variable::width_of;
 use bits::values::Encoded;
 
 fn is_busy(operation: Operation) -> bool
-    ensures { λ r. ⌜ r ≡ busy operation ⌝ }
+    ensures { λ r. ⌜ r ≡ isInHand operation ⌝ }
 {
     match operation {
         Operation::Idle => false,
