@@ -79,15 +79,23 @@ fn show_entry(
     }
 }
 
-// The first n entries of a table.
+fn entries_of(parameters: &[u32], registers: &[u32], variables: &[u32], entry: Entry) -> u32 {
+    match entry {
+        Entry::Parameter => count_of(parameters),
+        Entry::Register => count_of(registers),
+        Entry::Variable => count_of(variables),
+    }
+}
+
+// All entries of a table.
 fn show_entries(
     text: &[u8],
     parameters: &[u32],
     registers: &[u32],
     variables: &[u32],
     entry: Entry,
-    n: u32,
 ) {
+    let n = entries_of(parameters, registers, variables, entry);
     let mut i: u32 = 0;
     while i < n {
         show_entry(text, parameters, registers, variables, entry, i);
@@ -105,36 +113,12 @@ pub fn show_map(
     write(b"\ndevice ");
     write(name_of(text, judging.place, judging.extent));
     write(b"\n");
-    let first = count_of(parameters);
-    show_entries(
-        text,
-        parameters,
-        registers,
-        variables,
-        Entry::Parameter,
-        first,
-    );
+    show_entries(text, parameters, registers, variables, Entry::Parameter);
     write(b"\nregisters  7          6          5          4");
     write(b"          3          2          1          0\n");
-    let second = count_of(registers);
-    show_entries(
-        text,
-        parameters,
-        registers,
-        variables,
-        Entry::Register,
-        second,
-    );
-    let third = count_of(variables);
-    if 0 < third {
+    show_entries(text, parameters, registers, variables, Entry::Register);
+    if 0 < count_of(variables) {
         write(b"\nvariables\n");
-        show_entries(
-            text,
-            parameters,
-            registers,
-            variables,
-            Entry::Variable,
-            third,
-        );
+        show_entries(text, parameters, registers, variables, Entry::Variable);
     }
 }

@@ -11,6 +11,9 @@ Inv-loop text parameters registers variables entry n i₀ i = i ≤ i
 abbrev μ-loop : tie.MeasureT-loop
 μ-loop text parameters registers variables entry n i₀ i = n - i
 
+entries-of-requires : tie.Need-entries-of-requires Inv-loop μ-loop
+entries-of-requires c κs = search needs
+
 loop-holds : tie.Need-loop-holds Inv-loop μ-loop
 loop-holds c = omega arith
 
@@ -35,6 +38,7 @@ show-entries-spec =
     (tie.spec
     Inv-loop
     μ-loop
+    entries-of-requires
     loop-holds
     show-entry-requires
     add-i
