@@ -1,12 +1,12 @@
 -- What the pieces of a part hold, one after the other.
 -- Assumes nothing.
-use Prim.Native.Nat.{ℕ, zero, suc, _+_, _-_, _*_, _≤_}
+use Prim.Native.Nat.{ℕ, zero, suc, _+_, _-_, _*_, _<_, _≤_, _^_}
 use native.Mathlib.Omega.{arith}
 use mathlib.Core.Path.{_≡_, refl, sym, ap, ap₂, _∙_}
-use mathlib.Core.Bool.{Bool, true, false, _&&_, _||_, or-assoc, or-false}
+use mathlib.Core.Bool.{Bool, true, false, cond, _&&_, _||_, or-assoc, or-false}
 use mathlib.Core.List.{List, [], _∷_, _++_}
 use lib.Dec.{eqb, leb, ltb}
-use lib.ListN.{getD}
+use lib.ListN.{getD, length, length-append}
 use borrow.Author.Tests.{eqb-true, eqb-false, leb-true, ltb-true, ltb-false, le-leb, le-ltb, lt-ltb}
 use Rattle.tables.specs.Every.{firstOf}
 use Rattle.tables.specs.Marks.{downFrom, has, joined}
@@ -14,8 +14,9 @@ use Rattle.tables.specs.declared.Piece.{Piece}
 use Rattle.tables.specs.Tables.{pieceIn, pieceBits}
 use Rattle.tables.proofs.Laws.{first-none}
 use Rattle.details.specs.declared.search.Test.{Test}
+use Rattle.details.specs.Holders.{behind, Few}
 use Rattle.details.specs.Search.{passes}
-use Rattle.tables.proofs.MarkLaws.{joined-more, piece-run}
+use Rattle.tables.proofs.MarkLaws.{joined-more, piece-run, length-down}
 
 -- a run of numbers has those between its ends
 run-none : (x from : ℕ) → false ≡ (leb from x && ltb x (from + 0))
@@ -64,6 +65,49 @@ pub piece-has : (vs : List ℕ) (piece x : ℕ) {r h l : ℕ} → r ≡ getD vs 
 piece-has vs piece x {r} {h} {l} er eh el =
     piece-ends x (32 * r + l) r h l refl ∙ sym (has-down x (32 * r + l) (h + 1 - l)) ∙ ap (has x) (piece-run vs piece er eh el)
 
+-- how many bits a piece has, and how many of them stand behind one: as many as lie below it
+behind-down : (x from n : ℕ) → behind x (downFrom from n) ≡ cond (leb from x && ltb x (from + n)) (x - from) 0
+unfolding behind downFrom
+behind-down x from zero = ap (λ (b : Bool). cond b (x - from) 0) (run-none x from)
+behind-down x from (suc n) = go (behind-down x from n) (eqb x (from + n)) refl
+  where
+    go :
+        behind x (downFrom from n) ≡ cond (leb from x && ltb x (from + n)) (x - from) 0
+        → (b : Bool) → eqb x (from + n) ≡ b
+        → cond b (length (downFrom from n)) (behind x (downFrom from n)) ≡ cond (leb from x && ltb x (from + suc n)) (x - from) 0
+    go h true e =
+        let is = eqb-true x (from + n) e in
+        let low : n ≡ x - from = omega arith in
+        length-down from n ∙ low ∙ ap (λ (b : Bool). cond b (x - from) 0) (run-more x from n true e)
+    go h false e = h ∙ ap (λ (b : Bool). cond b (x - from) 0) (run-more x from n false e)
+
+behind-few : (x : ℕ) (xs : List ℕ) → behind x xs ≤ length xs
+unfolding behind
+behind-few x [] = omega arith
+behind-few x (y ∷ ys) = go (behind-few x ys) (eqb x y)
+  where
+    go : behind x ys ≤ length ys → (b : Bool) → cond b (length ys) (behind x ys) ≤ suc (length ys)
+    go h true = omega arith
+    go h false = omega arith
+
+pub piece-size : (vs : List ℕ) (piece : ℕ) {h l n : ℕ} → h ≡ getD vs (piece + 1) 0 → l ≡ getD vs (piece + 2) 0 → h < 2 ^ 32 → n ≡ h + 1 - l
+    → Few (length (pieceBits (pieceIn vs piece))) n
+piece-size vs piece {h} {l} eh el lt e =
+    record {
+      is = e ∙ sym (length-down (32 * getD vs piece 0 + l) (h + 1 - l)) ∙ ap length (piece-run vs piece refl eh el);
+      small = omega arith;
+    }
+
+pub piece-weight :
+    (vs : List ℕ) (piece x : ℕ) {r l w : ℕ} {b : Bool} → r ≡ getD vs piece 0 → l ≡ getD vs (piece + 2) 0
+    → b ≡ has x (pieceBits (pieceIn vs piece)) → w ≡ cond b (x - (32 * r + l)) 0
+    → w ≡ behind x (pieceBits (pieceIn vs piece))
+piece-weight vs piece x {r} {l} {w} {b} er el eb ew =
+    let n : ℕ = getD vs (piece + 1) 0 + 1 - l in
+    let run : downFrom (32 * r + l) n ≡ pieceBits (pieceIn vs piece) = piece-run vs piece er refl el in
+    let test : b ≡ (leb (32 * r + l) x && ltb x (32 * r + l + n)) = eb ∙ ap (has x) (sym run) ∙ has-down x (32 * r + l) n in
+    ew ∙ ap (λ (t : Bool). cond t (x - (32 * r + l)) 0) test ∙ sym (behind-down x (32 * r + l) n) ∙ ap (behind x) run
+
 -- a piece, made of its words
 pub piece-made : (vs : List ℕ) (at : ℕ) {r h l : ℕ} → r ≡ getD vs at 0 → h ≡ getD vs (at + 1) 0 → l ≡ getD vs (at + 2) 0
     → _≡_ {A = Piece} (record { register = r; high = h; low = l }) (pieceIn vs at)
@@ -81,6 +125,38 @@ has-start x f = refl
 
 pub has-more : (x : ℕ) (f : ℕ → List ℕ) (n : ℕ) {found b : Bool} → found ≡ has x (joined f n) → b ≡ has x (f n) → (found || b) ≡ has x (joined f (n + 1))
 has-more x f n h e = ap₂ _||_ h e ∙ sym (ap (has x) (joined-more f n) ∙ has-append x (joined f n) (f n))
+
+-- the same for what stands behind a number
+behind-append : (x : ℕ) (xs ys : List ℕ) → behind x (xs ++ ys) ≡ cond (has x xs) (behind x xs + length ys) (behind x ys)
+unfolding has behind
+behind-append x [] ys = refl
+behind-append x (y ∷ xs) ys = go (behind-append x xs ys) (eqb x y)
+  where
+    go :
+        behind x (xs ++ ys) ≡ cond (has x xs) (behind x xs + length ys) (behind x ys)
+        → (b : Bool)
+        → cond b (length (xs ++ ys)) (behind x (xs ++ ys)) ≡ cond (b || has x xs) (cond b (length xs) (behind x xs) + length ys) (behind x ys)
+    go h true = length-append xs ys
+    go h false = h
+
+pub behind-start : (x : ℕ) (f : ℕ → List ℕ) → 0 ≡ behind x (joined f 0)
+unfolding behind joined
+behind-start x f = refl
+
+pub behind-more :
+    (x : ℕ) (f : ℕ → List ℕ) (n : ℕ) {found : Bool} {weight size own next : ℕ} → found ≡ has x (joined f n) → weight ≡ behind x (joined f n)
+    → size ≡ length (f n) → own ≡ behind x (f n) → next ≡ cond found (weight + size) own
+    → next ≡ behind x (joined f (n + 1))
+behind-more x f n {found} {weight} {size} {own} ef ew es eo en =
+    let here : cond found (weight + size) own ≡ cond (has x (joined f n)) (behind x (joined f n) + length (f n)) (behind x (f n)) = rw (ef, ew, es, eo) in
+    en ∙ here ∙ sym (ap (behind x) (joined-more f n) ∙ behind-append x (joined f n) (f n))
+
+pub own-few : (x : ℕ) (xs : List ℕ) {own size : ℕ} → own ≡ behind x xs → size ≡ length xs → own ≤ size
+own-few x xs eo es = let few = behind-few x xs in omega arith
+
+pub chosen-few : (b : Bool) {x y m r : ℕ} → r ≡ cond b x y → x ≤ m → y ≤ m → r ≤ m
+chosen-few true e lx ly = omega arith
+chosen-few false e lx ly = omega arith
 
 -- one register, as a list of its own
 pub has-single : (x : ℕ) {y z : ℕ} → y ≡ z → eqb x y ≡ has x (z ∷ [])

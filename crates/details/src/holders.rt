@@ -1,14 +1,16 @@
 // Which variable holds a bit, or has one in a register, and what two of them share.
 ghost use mathlib.Core.Path.{_≡_};
-ghost use Prim.Native.Nat.{_+_, _*_, _<_, _^_};
+ghost use Prim.Native.Nat.{_+_, _*_, _-_, _<_, _^_};
+ghost use lib.ListN.{length};
 ghost use Rattle.tables.specs.Marks.{has};
 ghost use Rattle.tables.specs.Tables.{pieceIn, pieceBits, variablePartOf};
 ghost use Rattle.tables.specs.View.{partNo};
-ghost use Rattle.details.specs.Holders.{holds, touches, mentionedBelow, pulls, shareIn};
+ghost use Rattle.details.specs.Holders.{holds, behind, weightIn, Few, Weighs, touches, mentionedBelow, pulls, shareIn};
 use crate::entries::piece_count;
 use crate::entries::piece_of;
 use crate::entries::variable_part;
 use crate::entries::variable_word;
+use rules::words::choose;
 use tables::Part;
 use tables::words::word;
 
@@ -21,6 +23,54 @@ fn piece_holds(variables: &[u32], piece: usize, number: usize) -> bool
     let high = word(variables, piece + 1);
     let low = word(variables, piece + 2);
     (32 * register + low <= number) & (number < 32 * register + high + 1)
+}
+
+// How far it is from one number to another, 0 where that is less.
+fn past(from: usize, to: usize) -> usize
+    ensures { λ r. ⌜ r ≡ to - from ⌝ }
+{
+    if from <= to { to - from } else { 0 }
+}
+
+// How many bits the piece at a word of the variables has.
+fn piece_size(variables: &[u32], piece: usize) -> usize
+    requires { ⌜ piece < 2 ^ 41 ⌝ }
+    ensures { λ r. ⌜ Few (length (pieceBits (pieceIn (now (variables .entry)) piece))) r ⌝ }
+{
+    let high = word(variables, piece + 1);
+    let low = word(variables, piece + 2);
+    past(low, high + 1)
+}
+
+// How many of them stand behind this bit; 0 where it is none of them.
+fn piece_weight(variables: &[u32], piece: usize, number: usize) -> usize
+    requires { ⌜ piece < 2 ^ 41 ⌝ }
+    ensures { λ r. ⌜ r ≡ behind number (pieceBits (pieceIn (now (variables .entry)) piece)) ⌝ }
+{
+    let register = word(variables, piece);
+    let low = word(variables, piece + 2);
+    let held = piece_holds(variables, piece, number);
+    choose(held, past(32 * register + low, number), 0)
+}
+
+// The weight of a bit in variable v.
+pub fn weight_in(variables: &[u32], part: Part, number: usize, v: u32) -> usize
+    ensures { λ r. ⌜ Weighs (weightIn (now (variables .entry)) part number v) r ⌝ }
+{
+    let at = variable_part(v, part);
+    let n = word(variables, at + 2);
+    let mut found = false;
+    let mut weight = 0;
+    let mut k = 0;
+    while k < n {
+        let piece = at + 3 + 3 * k;
+        let size = piece_size(variables, piece);
+        let own = piece_weight(variables, piece, number);
+        weight = choose(found, weight + size, own);
+        found = found | piece_holds(variables, piece, number);
+        k += 1;
+    }
+    weight
 }
 
 // Does variable v map this bit?

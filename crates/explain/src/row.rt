@@ -1,27 +1,70 @@
-// A register's part as a row of cells, bit 7 first: the variable that holds a run of bits, or what the mask says of a bit.
+// A register's part as a row of cells, bit 7 first: the variable that holds a run of bits, and which of its bits they are, or what the mask says of a bit.
 ghost use Prim.Native.Nat.{_-_, _≤_};
+use crate::write::number;
+use crate::write::span;
 use crate::write::times;
 use crate::write::write;
 use details::entries::count_of;
 use details::entries::register_word;
 use details::entries::variable_name;
+use details::entries::variable_width;
 use details::rows::holder_of;
 use details::rows::run_below;
+use details::rows::weight_of;
 use rules::names::name_of;
 use tables::Part;
 
-// A name in so many columns, cut where it is longer.
-fn show_cell(name: &[u8], columns: usize) {
+// [11..8], the bits of a variable that a cell holds
+fn show_weights(high: usize, low: usize) {
+    write(b"[");
+    number(high);
+    if low != high {
+        write(b"..");
+        number(low);
+    }
+    write(b"]");
+}
+
+// A weight and two signs beside it: how wide they are. A variable has at most 32 bits.
+fn weight_columns(weight: usize) -> usize
+    ensures { λ r. ⌜ r ≤ 4 ⌝ }
+{
+    if weight < 10 { 3 } else { 4 }
+}
+
+// How wide `show_weights` writes.
+fn weights_columns(high: usize, low: usize) -> usize {
+    let one = weight_columns(high);
+    if low == high {
+        return one;
+    }
+    one + weight_columns(low)
+}
+
+// A name in so many columns, cut where it is longer; how many it takes.
+fn show_label(name: &[u8], columns: usize) -> usize {
     if name.len() < columns {
         write(b" ");
         write(name);
-        times(b" ", columns - 1 - name.len());
-    } else if name.len() == columns {
+        return name.len() + 1;
+    }
+    if name.len() == columns {
         write(name);
     } else if 0 < columns {
         write(name_of(name, 0, columns - 1));
         write(b"~");
     }
+    columns
+}
+
+// A name, and which of its bits are here, unless all are.
+fn show_cell(name: &[u8], whole: bool, high: usize, low: usize, columns: usize) {
+    let weights = if whole { 0 } else { weights_columns(high, low) };
+    let used = show_label(name, span(weights, columns));
+    if !whole {
+        show_weights(high, low);
+    }
+    times(b" ", span(weights, span(used, columns)));
     write(b"|");
 }
 
@@ -53,6 +96,17 @@ fn less(left: u32, run: u32) -> u32
     0
 }
 
+// The cell of variable v whose highest bit is below `left`; how many bits it takes.
+fn show_held(text: &[u8], variables: &[u32], v: u32, i: u32, part: Part, left: u32) -> u32 {
+    let run = run_below(variables, i, part, left);
+    let high = weight_of(variables, part, i, less(left, 1));
+    let low = weight_of(variables, part, i, less(left, run));
+    let whole = run as usize == variable_width(variables, v);
+    let name = variable_name(text, variables, v);
+    show_cell(name, whole, high, low, cell_columns(run));
+    run
+}
+
 // The cell whose highest bit is below `left`; how many bits it takes.
 fn show_next(
     text: &[u8],
@@ -62,12 +116,10 @@ fn show_next(
     part: Part,
     left: u32,
 ) -> u32 {
-    let top = if 0 < left { left - 1 } else { 0 };
+    let top = less(left, 1);
     let v = holder_of(variables, part, i, top);
     if v < count_of(variables) {
-        let run = run_below(variables, i, part, left);
-        show_cell(variable_name(text, variables, v), cell_columns(run));
-        run
+        show_held(text, variables, v, i, part, left)
     } else {
         show_fixed(registers, i, part, top as usize);
         1

@@ -1,5 +1,6 @@
 // The line of the text that holds a place, and a caret under the place. A long line is cut around it.
 use crate::write::number_from_one;
+use crate::write::span;
 use crate::write::write;
 use details::places::line_start;
 use details::places::lines_before;
@@ -43,11 +44,6 @@ fn show_bytes(bytes: &[u8], blank: bool) {
         }
         k += 1;
     }
-}
-
-// How far it is from one place to another, 0 where that lies before.
-fn span(from: usize, to: usize) -> usize {
-    if from <= to { to - from } else { 0 }
 }
 
 // Three dots where a line is cut.

@@ -47,6 +47,11 @@ pub fn column(word: &[u8], columns: usize) {
     fill(word.len(), columns);
 }
 
+// How far it is from one place to another, 0 where that lies before.
+pub fn span(from: usize, to: usize) -> usize {
+    if from <= to { to - from } else { 0 }
+}
+
 // What a part is for.
 pub fn purpose(part: Part) {
     match part {

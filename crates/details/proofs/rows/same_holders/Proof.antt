@@ -2,17 +2,15 @@
 use borrow.Author.Needs.{needs}
 use Prim.Native.Nat.{_-_, _≤_}
 use native.Mathlib.Omega.{arith}
-use mathlib.Core.Path.{_≡_, sym, ap₂}
-use lib.Dec.{eqb}
+use mathlib.Core.Path.{_≡_, sym}
 use Rattle.tables.specs.Every.{every}
 use Rattle.tables.proofs.Laws.{every-none, gathers, gathered}
-use Rattle.details.specs.Rows.{holderOf, sameHolders}
-use Rattle.tables.specs.declared.Part.the-variants.{Read, Write}
+use Rattle.details.specs.Rows.{sameBit, sameHolders}
 use Rattle.details.proofs.rows.same_holders.Statement.{statement}
 use Rattle.details.proofs.rows.same_holders.Tie as tie
 
 abbrev Inv-loop : tie.InvT-loop
-Inv-loop variables i ok₀ b₀ ok b = (b ≤ 8) × (ok ≡ every b (λ k. eqb (holderOf variables Read i k) (holderOf variables Write i k)))
+Inv-loop variables i ok₀ b₀ ok b = (b ≤ 8) × (ok ≡ every b (sameBit variables i))
 
 abbrev μ-loop : tie.MeasureT-loop
 μ-loop variables i ok₀ b₀ ok b = 8 - b
@@ -20,11 +18,8 @@ abbrev μ-loop : tie.MeasureT-loop
 loop-holds : tie.Need-loop-holds Inv-loop μ-loop
 loop-holds c = (omega arith, sym (every-none _))
 
-holder-of-requires : tie.Need-holder-of-requires Inv-loop μ-loop
-holder-of-requires c κs = search needs
-
-holder-of-requires-2 : tie.Need-holder-of-requires-2 Inv-loop μ-loop
-holder-of-requires-2 c κs = search needs
+same-bit-requires : tie.Need-same-bit-requires Inv-loop μ-loop
+same-bit-requires c κs = search needs
 
 add-b : tie.Need-add-b Inv-loop μ-loop
 add-b c = search needs
@@ -33,7 +28,7 @@ loop-less : tie.Need-loop-less Inv-loop μ-loop
 loop-less c = search needs
 
 loop-again : tie.Need-loop-again Inv-loop μ-loop
-loop-again c = (omega arith, gathers _ _ (c .before .before .before .loop .inv .1) (ap₂ eqb (c .before .holder-of .ensures) (c .holder-of2 .ensures)))
+loop-again c = (omega arith, gathers _ _ (c .before .before .loop .inv .1) (c .same-bit .ensures))
 
 returns : tie.Need-returns Inv-loop μ-loop
 unfolding sameHolders
@@ -46,8 +41,7 @@ same-holders-spec =
     Inv-loop
     μ-loop
     loop-holds
-    holder-of-requires
-    holder-of-requires-2
+    same-bit-requires
     add-b
     loop-less
     loop-again
