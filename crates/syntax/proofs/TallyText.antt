@@ -14,9 +14,9 @@ use Rattle.syntax.specs.declared.reader.Step.{Step}
 use Rattle.syntax.specs.declared.reader.Step.the-variants.{At, Refused}
 use Rattle.syntax.specs.declared.reader.Named.{Named}
 use Rattle.syntax.specs.declared.register.Register.{Register}
-use Rattle.syntax.specs.Reader.{seenAt, fixedAfter}
+use Rattle.token.specs.Kind.{pick}
+use Rattle.syntax.specs.Reader.{seenAt, fixedAfter, extraAfter}
 use Rattle.syntax.specs.Heading.{headAfter}
-use Rattle.syntax.specs.Register.{registerAfter}
 use Rattle.syntax.specs.Variable.{VariableRead}
 use Rattle.syntax.specs.Text.{Declaration, aDevice, aParameter, aRegister, aVariable, Progress, begins, movedTo, counted, taken, headWith, parameterWith, moreParameters, registerWith, variableWith, declarationWith, moreDeclarations, parametersWith, declarationsWith, readingWith}
 use Rattle.syntax.specs.Sizes.{Spot, front, parameter, body, register, piece, onward, passesAt, asksOperand, Tally, nothingYet, tallied, tooMuch, passedIn, passedAt, Kept}
@@ -24,7 +24,7 @@ use Rattle.syntax.proofs.LoopSteps.{loop-keeps}
 use Rattle.syntax.proofs.Tally.{Agrees, refused-agrees, agrees-tok, agrees-past, agrees-name, agrees-extra, agrees-end}
 use Rattle.syntax.proofs.TallyParameter.{agrees-parameter}
 use Rattle.syntax.proofs.TallyRegister.{agrees-register}
-use Rattle.syntax.proofs.TallyVariable.{InVariable, agrees-variable}
+use Rattle.syntax.proofs.TallyVariable.{agrees-variable}
 
 next-one : (n : ℕ) → suc n ≡ n + 1
 next-one n = omega arith
@@ -93,46 +93,45 @@ module _ {X : Type 0} (judge : X → Declaration → X) (text : List ℕ) (w : O
 
   -- ---- the declarations
 
-  -- a register ; or one too many
+  -- one more declaration that begins with a word of this kind, or one too many
+  one-agrees : (kind most count : ℕ) (p : Progress X) (d : Declaration) (s : Step) → eqb 255 kind ≡ false
+      → (ltb most (suc count) ≡ true → tooMuch (tally (p .registers) (p .variables) body) kind ≡ true) → At-spot (λ q. body) p
+      → (ltb most (suc count) ≡ false → At-spot (λ q. body) (taken judge p d s)) → At-spot (λ q. body) (pick (leb most count) (movedTo p (extraAfter text kind (p .step))) (taken judge p d s))
+  unfolding movedTo
+  one-agrees kind most count p d s end over a whole = by (leb most count) refl
+    where
+      by : (b : Bool) → leb most count ≡ b → At-spot (λ q. body) (pick b (movedTo p (extraAfter text kind (p .step))) (taken judge p d s))
+      by true e =
+          agrees-extra text w kind end (tally (p .registers) (p .variables) body) (tally (p .registers) (p .variables) body)
+          (over (lt-ltb most (suc count) (omega (arith, leb-true most count e)))) (p .step) a
+      by false e = whole (le-ltb most (suc count) (leb-false most count e))
+
+  -- a register ;
   register-taken : (p : Progress X) (d : Register) (s : Step) → Agrees text w (tally (suc (p .registers)) (p .variables) body) s → At-spot (λ q. body) (taken judge p (aRegister d) s)
   unfolding taken counted movedTo
   register-taken p d (At next) a = subst (λ (n : ℕ). Agrees text w (tally n (p .variables) body) (At next)) (next-one (p .registers)) a
   register-taken p d (Refused n q) a = refused-agrees text w _ _ n q a
 
   register-agrees : (p : Progress X) → At-spot (λ q. body) p → At-spot (λ q. body) (registerWith judge text p)
-  unfolding registerWith movedTo asksOperand tallied tooMuch passesAt onward
-  register-agrees p a = by (leb 64 (p .registers)) refl
-    where
-      by : (b : Bool) → leb 64 (p .registers) ≡ b → At-spot (λ q. body) (registerWith judge text p)
-      by true e =
-          rw e (agrees-extra text w 529 refl (tally (p .registers) (p .variables) body) (tally (p .registers) (p .variables) body)
-          (ap (λ (c : Bool). c || false) (lt-ltb 64 (suc (p .registers)) (omega (arith, leb-true 64 (p .registers) e)))) (p .step) a)
-      by false e =
-          rw e (register-taken p (registerAfter text (p .step)) (fixedAfter text 315 (registerAfter text (p .step) .step))
-          (agrees-tok text w 315 (tally (suc (p .registers)) (p .variables) (register [])) refl refl refl (registerAfter text (p .step) .step)
-          (agrees-register text w (p .registers) (p .variables) (le-ltb 64 (suc (p .registers)) (leb-false 64 (p .registers) e)) (p .step) a)))
+  unfolding registerWith asksOperand tallied tooMuch passesAt onward
+  register-agrees p a =
+      one-agrees 529 64 (p .registers) p _ _ refl (ap (λ (c : Bool). c || false)) a
+      (λ fits. register-taken p _ _ (agrees-tok text w 315 (tally (suc (p .registers)) (p .variables) (register [])) refl refl refl _
+      (agrees-register text w (p .registers) (p .variables) fits (p .step) a)))
 
-  -- a variable ; or one too many
+  -- a variable ;
   variable-taken : (p : Progress X) (d : VariableRead) (s : Step) → Agrees text w (tally (p .registers) (suc (p .variables)) body) s → At-spot (λ q. body) (taken judge p (aVariable d) s)
   unfolding taken counted movedTo
   variable-taken p d (At next) a = subst (λ (n : ℕ). Agrees text w (tally (p .registers) n body) (At next)) (next-one (p .variables)) a
   variable-taken p d (Refused n q) a = refused-agrees text w _ _ n q a
 
-  ended : (r v : ℕ) (s : Step) → InVariable text w r v s → Agrees text w (tally r v body) (fixedAfter text 315 s)
-  unfolding tallied tooMuch passesAt onward
-  ended r v s a = agrees-tok text w 315 (tally r v (piece (a .0))) refl refl (a .1) s (a .2)
-
   variable-agrees : (p : Progress X) → At-spot (λ q. body) p → At-spot (λ q. body) (variableWith judge text p)
-  unfolding variableWith movedTo tooMuch passesAt
-  variable-agrees p a = by (leb 128 (p .variables)) refl
-    where
-      by : (b : Bool) → leb 128 (p .variables) ≡ b → At-spot (λ q. body) (variableWith judge text p)
-      by true e =
-          rw e (agrees-extra text w 537 refl (tally (p .registers) (p .variables) body) (tally (p .registers) (p .variables) body)
-          (ap (λ (c : Bool). c || false) (lt-ltb 128 (suc (p .variables)) (omega (arith, leb-true 128 (p .variables) e)))) (p .step) a)
-      by false e =
-          rw e (variable-taken p _ _ (ended (p .registers) (suc (p .variables)) _
-          (agrees-variable text w (p .registers) (p .variables) (le-ltb 128 (suc (p .variables)) (leb-false 128 (p .variables) e)) (replicate 40 0) (replicate 40 0) (p .step) a)))
+  unfolding variableWith tallied tooMuch passesAt onward
+  variable-agrees p a =
+      one-agrees 537 128 (p .variables) p _ _ refl (ap (λ (c : Bool). c || false)) a
+      (λ fits.
+      let one = agrees-variable text w (p .registers) (p .variables) fits (replicate 40 0) (replicate 40 0) (p .step) a in
+      variable-taken p _ _ (agrees-tok text w 315 (tally (p .registers) (suc (p .variables)) (piece (one .0))) refl refl (one .1) _ (one .2)))
 
   declaration-agrees : (p : Progress X) → At-spot (λ q. body) p → At-spot (λ q. body) (declarationWith judge text p)
   unfolding declarationWith
