@@ -13,7 +13,7 @@ use Rattle.syntax.proofs.Factored.{rules, ambiguous, device, device-ll}
 use Rattle.syntax.proofs.Checked.{rules-pass, device-passes}
 use Rattle.syntax.proofs.Numbered.{device-numbered, rules-numbered}
 use Rattle.syntax.proofs.SameTexts.{same-device}
-use Rattle.syntax.proofs.Expressions.{device-published, device-factored}
+use Rattle.syntax.proofs.Expressions.{same-texts}
 
 -- by numbers or by words
 to-words : (ts : List ℕ) → Text ambiguous device ts → Text published device-spec ts
@@ -24,10 +24,10 @@ from-words ts p = subst (λ (g : Grammar). Text ambiguous g ts) device-numbered 
 
 -- The factored grammar has the texts of the published one, over the published rules.
 to-text : (ts : List ℕ) → Text rules device-ll ts → Text published device-spec ts
-to-text ts p = to-words ts (device-published ts (same-device .1 ts [] p))
+to-text ts p = to-words ts (same-texts ts .0 (same-device .1 ts [] p))
 
 from-text : (ts : List ℕ) → Text published device-spec ts → Text rules device-ll ts
-from-text ts p = same-device .0 ts [] (device-factored ts (from-words ts p))
+from-text ts p = same-device .0 ts [] (same-texts ts .1 (from-words ts p))
 
 pub accepted-published : (ts : List ℕ) → (verdict rules device-ll ts ≡ accepted) ↔ Text published device-spec ts
 accepted-published ts =
