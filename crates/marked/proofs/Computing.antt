@@ -20,7 +20,7 @@ use Rattle.syntax.specs.Offset.{stepIn}
 use Rattle.syntax.specs.Parameter.{stored, widthAfter, rangeTo, rangeAfter, nextRange, moreRanges, rangesAfter, setAfter, parameterAfter}
 use Rattle.syntax.specs.Piece.{filed, rangePiece, moreBits, bracketAfter, namedPiece, pieceAfter, morePieces, piecesAfter}
 use Rattle.syntax.specs.Reader.{unexpected, tooMany, nameIn, seenAt, placeAt, fixedAfter, extraAfter, tokenAt, tokenAfter, bitsAfter, nameAfter, numberAfter, enclosedAfter}
-use Rattle.syntax.specs.Register.{worthIn, valuedBy, upOne, noMasks, counted, noPort, markAfter, valueAfter, offsetAfter, portAfter, maskAfter, attributeAfter, maskTurn, moreMasks, secondMarked, restAfter, registerAfter}
+use Rattle.syntax.specs.Register.{worthIn, valuedBy, upOne, upIf, noMasks, counted, noPort, markAfter, valueAfter, offsetAfter, portAfter, maskAfter, attributeAfter, maskTurn, moreMasks, secondMarked, restAfter, registerAfter}
 use Rattle.syntax.specs.Text.{begins as begins-of-text, movedTo, counted as counted-of-text, taken, headWith, parameterWith, moreParameters, registerWith, variableWith, declarationWith, moreDeclarations, parametersWith, declarationsWith, readingWith, listed, reading, remade}
 use Rattle.syntax.specs.Variable.{secondMarked as secondMarked-of-variable, secondAfter, restAfter as restAfter-of-variable, variableAfter}
 use Rattle.tables.specs.Every.{every, some, firstOf}
@@ -60,7 +60,7 @@ offsets = tt
 
 -- what is read
 unfoldable pub declarations : Unit {0}
-unfolding noBehaviours madeVolatile madeTrigger triggerAfter behaviourAfter behaviourTurn moreBehaviours intAfter typeAfter headAfter loopWith stepIn tooMany stored widthAfter rangeTo rangeAfter nextRange unlessFull closedBy itemTurn moreItems itemsAfter moreRanges rangesAfter setAfter parameterAfter filed rangePiece moreBits namedPiece bracketAfter pieceAfter morePieces piecesAfter unexpected nameIn longName extraAfter tokenAt tokenAfter bitsAfter enclosedAfter seenAt placeAt fixedAfter nameAfter numberAfter worthIn valuedBy upOne noMasks counted noPort markAfter valueAfter offsetAfter portAfter maskAfter attributeAfter maskTurn moreMasks secondMarked restAfter registerAfter begins-of-text movedTo counted-of-text taken headWith parameterWith moreParameters registerWith variableWith declarationWith moreDeclarations parametersWith declarationsWith readingWith listed reading remade secondMarked-of-variable secondAfter restAfter-of-variable variableAfter
+unfolding noBehaviours madeVolatile madeTrigger triggerAfter behaviourAfter behaviourTurn moreBehaviours intAfter typeAfter headAfter loopWith stepIn tooMany stored widthAfter rangeTo rangeAfter nextRange unlessFull closedBy itemTurn moreItems itemsAfter moreRanges rangesAfter setAfter parameterAfter filed rangePiece moreBits namedPiece bracketAfter pieceAfter morePieces piecesAfter unexpected nameIn longName extraAfter tokenAt tokenAfter bitsAfter enclosedAfter seenAt placeAt fixedAfter nameAfter numberAfter worthIn valuedBy upOne upIf noMasks counted noPort markAfter valueAfter offsetAfter portAfter maskAfter attributeAfter maskTurn moreMasks secondMarked restAfter registerAfter begins-of-text movedTo counted-of-text taken headWith parameterWith moreParameters registerWith variableWith declarationWith moreDeclarations parametersWith declarationsWith readingWith listed reading remade secondMarked-of-variable secondAfter restAfter-of-variable variableAfter
 declarations = tt
 
 -- the words of tables, and the rules that they can break
