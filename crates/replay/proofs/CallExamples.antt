@@ -12,7 +12,7 @@ use Rattle.replay.specs.declared.call.Request.the-variants.{Open, Write}
 use Rattle.replay.specs.declared.call.Call.{Call}
 use Rattle.replay.specs.declared.call.Call.the-variants.{Nothing, Station, Lookup, LendMarks, Hold, Unknown}
 use Rattle.replay.specs.Fields.{isNone, onlyWord, belowOf, isSome, countFrom}
-use Rattle.replay.specs.Calls.{chosen, bareOf, openOf, lookupOf, readOf, writing, writeOf, confirming, isAll, amountOf, lent, lendOf, inHand, held, heldOf, holding, holdOf, callBy, isSkipped, callOf}
+use Rattle.replay.specs.Calls.{chosen, bareOf, withNumber, lookupOf, writing, writeOf, isAll, amountOf, lent, lendOf, inHand, held, heldOf, holding, holdOf, callBy, isSkipped, callOf}
 
 abbrev asked : List ℕ → Call
 asked line = callOf (wordsOf line)
@@ -37,5 +37,5 @@ pub lines :
     ∷ Unknown
     ∷ Unknown
     ∷ []
-unfolding same runFrom begins within digitOf isDigit testOf wordOf restOf ahead wordsUpTo wordsOf figuresFrom figures numberOf natural negated valueOf isNone onlyWord belowOf isSome countFrom chosen bareOf openOf lookupOf readOf writing writeOf confirming isAll amountOf lent lendOf inHand held heldOf holding holdOf callBy isSkipped callOf
+unfolding same runFrom begins within digitOf isDigit testOf wordOf restOf ahead wordsUpTo wordsOf figuresFrom figures numberOf natural negated valueOf isNone onlyWord belowOf isSome countFrom chosen bareOf withNumber lookupOf writing writeOf isAll amountOf lent lendOf inHand held heldOf holding holdOf callBy isSkipped callOf
 lines = refl

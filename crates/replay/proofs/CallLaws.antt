@@ -13,10 +13,11 @@ use Rattle.script.specs.Numbers.{numberOf, valueOf}
 use Rattle.script.specs.declared.numbers.Number.{Number}
 use Rattle.script.specs.declared.numbers.Number.the-variants as number
 use Rattle.script.specs.declared.numbers.Value.{Value}
+use Rattle.replay.specs.declared.call.Request.{Request}
 use Rattle.replay.specs.declared.call.Call.{Call}
-use Rattle.replay.specs.declared.call.Call.the-variants.{Nothing, Lookup, Unknown}
-use Rattle.replay.specs.Fields.{isNone, onlyWord, belowOf}
-use Rattle.replay.specs.Calls.{chosen, bareOf, lookupOf, writing, writeOf, isAll, amountOf, lent, lendOf, held, heldOf, holding, holdOf, callBy, isSkipped, callOf}
+use Rattle.replay.specs.declared.call.Call.the-variants.{Nothing, Station, Lookup, Unknown}
+use Rattle.replay.specs.Fields.{isNone, onlyWord, belowOf, orZero}
+use Rattle.replay.specs.Calls.{chosen, bareOf, withNumber, lookupOf, writing, writeOf, isAll, amountOf, lent, lendOf, held, heldOf, holding, holdOf, callBy, isSkipped, callOf}
 use Rattle.replay.proofs.FieldLaws.{no-number, split}
 
 -- the first test that holds decides
@@ -32,6 +33,12 @@ module _ {r : Call} (test : Bool) (call : Call) (more : List (Bool × Call)) whe
 pub chosen-none : Unknown ≡ chosen []
 unfolding chosen
 chosen-none = refl
+
+-- a request that was made with its number
+pub with-number : (n : Number) (request : ℕ → Request) (k : ℕ) → k ≡ orZero n → withNumber n (λ (m : ℕ). request k) ≡ withNumber n request
+unfolding withNumber orZero
+with-number (number.Is m) request k e = ap (λ (i : ℕ). Station (request i)) e
+with-number number.Nothing request k e = refl
 
 -- the first byte of a word, and a word without one
 pub skipped-by : (word : List ℕ) → 0 < length word → eqb (getD word 0 0) (code ";") ≡ isSkipped word

@@ -14,7 +14,7 @@ use Rattle.script.proofs.WordLaws.{words-first, rest-shorter}
 use Rattle.script.specs.declared.numbers.Number.{Number}
 use Rattle.script.specs.declared.numbers.Number.the-variants.{Is, Nothing}
 use Rattle.script.specs.declared.numbers.Value.the-variants as value
-use Rattle.replay.specs.Fields.{isNone, onlyWord, belowOf, isSome, countFrom, byteOf, stored, laid}
+use Rattle.replay.specs.Fields.{isNone, onlyWord, belowOf, isSome, countFrom, orZero, byteOf, stored, laid}
 
 pub no-number : numberOf [] ≡ Nothing
 unfolding numberOf figures begins
@@ -60,7 +60,7 @@ module _ (line tail : List ℕ) (is-rest : tail ≡ restOf line) where
   only-not more = not-alone (wordOf line) (wordsOf tail) more ∙ ap onlyWord (sym (split line (wordOf line) refl tail is-rest))
 
 -- a number that is below a limit is
-pub below-less : (limit : ℕ) (n : Number) (b : ℕ) → belowOf limit n ≡ Is b → b < limit
+below-less : (limit : ℕ) (n : Number) (b : ℕ) → belowOf limit n ≡ Is b → b < limit
 unfolding belowOf
 below-less limit (Is m) b e = go (ltb m limit) refl e
   where
@@ -68,6 +68,11 @@ below-less limit (Is m) b e = go (ltb m limit) refl e
     go true t e′ = let same-number : m ≡ b = cc in omega (arith, ltb-true m limit t)
     go false t e′ = let z : _≡_ {A = ℕ} 0 1 = cc in omega arith
 below-less limit Nothing b e = let z : _≡_ {A = ℕ} 0 1 = cc in omega arith
+
+pub below-small : (limit : ℕ) (n number : Number) → 0 < limit → number ≡ belowOf limit n → orZero number < limit
+unfolding orZero
+below-small limit n (Is b) some e = below-less limit n b (sym e)
+below-small limit n Nothing some e = some
 
 -- ── the bytes of an opening, word by word ──
 

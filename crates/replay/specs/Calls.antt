@@ -12,6 +12,7 @@ use Rattle.script.specs.declared.numbers.Value.{Value}
 use Rattle.script.specs.declared.numbers.Value.the-variants as value
 use Rattle.station.specs.declared.Operation.{Operation}
 use Rattle.station.specs.declared.Operation.the-variants.{Idle, Reading, Writing}
+use Rattle.replay.specs.declared.call.Request.{Request}
 use Rattle.replay.specs.declared.call.Request.the-variants.{Open, Read, Write, Confirm, Abandon}
 use Rattle.replay.specs.declared.call.Call.{Call}
 use Rattle.replay.specs.declared.call.Call.the-variants.{Nothing, Station, Lookup, State, LendRecord, LendMarks, Hold, Unknown}
@@ -26,20 +27,15 @@ chosen (entry ∷ more) = cond (entry .0) (entry .1) (chosen more)
 unfoldable pub bareOf : List (List ℕ) → Call → Call
 bareOf words call = cond (isNone words) call Unknown
 
--- `open B0 B1 ..`
-unfoldable pub openOf : Number → Call
-openOf (number.Is count) = Station (Open count)
-openOf number.Nothing = Unknown
+-- a call of the station that needs a number: `open B0 B1 ..` how many bytes, `read V` the variable, `confirm B` the byte
+unfoldable pub withNumber : Number → (ℕ → Request) → Call
+withNumber (number.Is n) request = Station (request n)
+withNumber number.Nothing request = Unknown
 
 -- `lookup NAME`; without a name it asks for the empty one
 unfoldable pub lookupOf : List (List ℕ) → Call
 lookupOf [] = Lookup
 lookupOf (name ∷ words) = bareOf words Lookup
-
--- `read V`
-unfoldable pub readOf : Number → Call
-readOf (number.Is v) = Station (Read v)
-readOf number.Nothing = Unknown
 
 -- `write V VALUE`
 unfoldable pub writing : Number → Value → Call
@@ -50,14 +46,6 @@ writing number.Nothing z = Unknown
 unfoldable pub writeOf : List (List ℕ) → Call
 writeOf [] = Unknown
 writeOf (v ∷ words) = writing (numberOf v) (valueOf (onlyWord words))
-
--- `confirm B`
-unfoldable pub confirming : Number → Call
-confirming (number.Is b) = Station (Confirm b)
-confirming number.Nothing = Unknown
-
-abbrev pub confirmOf : Number → Call
-confirmOf n = confirming (belowOf 256 n)
 
 -- `lend record K`, `lend marks K`; all of it is 2 ^ 64 - 1 bytes, more than there are
 unfoldable pub isAll : List (List ℕ) → Bool
@@ -107,16 +95,16 @@ holdOf (what ∷ words) = holding what words
 
 abbrev pub operations : List ℕ → List (List ℕ) → List (Bool × Call)
 operations verb words =
-    (same verb (bytes "read"), readOf (numberOf (onlyWord words)))
+    (same verb (bytes "read"), withNumber (numberOf (onlyWord words)) Read)
     ∷ (same verb (bytes "write"), writeOf words)
-    ∷ (same verb (bytes "confirm"), confirmOf (numberOf (onlyWord words)))
+    ∷ (same verb (bytes "confirm"), withNumber (belowOf 256 (numberOf (onlyWord words))) Confirm)
     ∷ (same verb (bytes "abandon"), bareOf words (Station Abandon))
     ∷ []
 
 unfoldable pub callBy : List ℕ → List (List ℕ) → Call
 callBy verb words =
     chosen
-    ((same verb (bytes "open"), openOf (countFrom words 0))
+    ((same verb (bytes "open"), withNumber (countFrom words 0) Open)
     ∷ (same verb (bytes "lookup"), lookupOf words)
     ∷ (same verb (bytes "state"), bareOf words State)
     ∷ (same verb (bytes "lend"), lendOf words)

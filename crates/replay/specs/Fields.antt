@@ -32,13 +32,14 @@ unfoldable pub countFrom : List (List ℕ) → ℕ → Number
 countFrom [] n = number.Is n
 countFrom (word ∷ more) n = elim (isSome (belowOf 256 (numberOf word))) [ true ↦ countFrom more (n + 1) | false ↦ number.Nothing ]
 
--- the byte that a word is, and 0 where it is none
-unfoldable pub byteBy : Number → ℕ
-byteBy (number.Is b) = b
-byteBy number.Nothing = 0
+-- the number, and 0 where there is none
+unfoldable pub orZero : Number → ℕ
+orZero (number.Is n) = n
+orZero number.Nothing = 0
 
+-- the byte that a word is, and 0 where it is none
 abbrev pub byteOf : List ℕ → ℕ
-byteOf word = byteBy (belowOf 256 (numberOf word))
+byteOf word = orZero (belowOf 256 (numberOf word))
 
 -- the byte stored at a place, or nowhere past the end
 abbrev pub stored : List ℕ → ℕ → ℕ → List ℕ

@@ -3,6 +3,7 @@ use crate::fields::below;
 use crate::fields::count_bytes;
 use crate::fields::is_bare;
 use crate::fields::only_word;
+use crate::fields::or_zero;
 use script::Number;
 use script::Value;
 use script::is;
@@ -12,8 +13,9 @@ use script::value_of;
 use script::word;
 use station::Operation;
 ghost use mathlib.Core.Path.{_≡_};
+ghost use Prim.Native.Nat.{ℕ};
 ghost use Rattle.script.specs.Words.{wordsOf};
-ghost use Rattle.replay.specs.Calls.{bareOf, openOf, lookupOf, readOf, writing, writeOf, confirmOf, operations, amountOf, lent, lendOf, inHand, held, heldOf, holding, holdOf, chosen, callBy, isSkipped, callOf};
+ghost use Rattle.replay.specs.Calls.{bareOf, withNumber, lookupOf, writing, writeOf, operations, amountOf, lent, lendOf, inHand, held, heldOf, holding, holdOf, chosen, callBy, isSkipped, callOf};
 
 // A call of the station. An opening has so many power-on bytes.
 pub enum Request {
@@ -44,11 +46,12 @@ fn bare(tail: &[u8], call: Call) -> Call
     if is_bare(tail) { call } else { Call::Unknown }
 }
 
-fn open_of(count: Number) -> Call
-    ensures { λ r. ⌜ r ≡ openOf count ⌝ }
+// A request that was made with this number; without one it is unknown.
+fn with_number(number: Number, request: Request) -> Call
+    ensures { λ r. ⌜ r ≡ withNumber number (λ (n : ℕ). request) ⌝ }
 {
-    match count {
-        Number::Is(n) => Call::Station(Request::Open(n as usize)),
+    match number {
+        Number::Is(_) => Call::Station(request),
         Number::Nothing => Call::Unknown,
     }
 }
@@ -60,15 +63,6 @@ fn lookup_of(tail: &[u8]) -> Call
         Call::Lookup
     } else {
         bare(rest(tail), Call::Lookup)
-    }
-}
-
-fn read_of(variable: Number) -> Call
-    ensures { λ r. ⌜ r ≡ readOf variable ⌝ }
-{
-    match variable {
-        Number::Is(v) => Call::Station(Request::Read(v as usize)),
-        Number::Nothing => Call::Unknown,
     }
 }
 
@@ -92,28 +86,21 @@ fn write_of(tail: &[u8]) -> Call
     write(variable, value)
 }
 
-fn confirm_of(number: Number) -> Call
-    ensures { λ r. ⌜ r ≡ confirmOf number ⌝ }
-{
-    let byte = below(256, number);
-    match byte {
-        Number::Is(b) => Call::Station(Request::Confirm(b as u8)),
-        Number::Nothing => Call::Unknown,
-    }
-}
-
 // The calls that begin, go on with or end an operation.
 fn operation_of(verb: &[u8], tail: &[u8]) -> Call
     ensures { λ r. ⌜ r ≡ chosen (operations (now (verb .entry)) (wordsOf (now (tail .entry)))) ⌝ }
 {
     if is(verb, b"read") {
-        return read_of(number_of(only_word(tail)));
+        let variable = number_of(only_word(tail));
+        return with_number(variable, Request::Read(or_zero(variable)));
     }
     if is(verb, b"write") {
         return write_of(tail);
     }
     if is(verb, b"confirm") {
-        return confirm_of(number_of(only_word(tail)));
+        let byte = below(256, number_of(only_word(tail)));
+        let b = or_zero(byte) as u8;
+        return with_number(byte, Request::Confirm(b));
     }
     if is(verb, b"abandon") {
         return bare(tail, Call::Station(Request::Abandon));
@@ -223,7 +210,8 @@ fn call_by(verb: &[u8], tail: &[u8]) -> Call
     ensures { λ r. ⌜ r ≡ callBy (now (verb .entry)) (wordsOf (now (tail .entry))) ⌝ }
 {
     if is(verb, b"open") {
-        return open_of(count_bytes(tail));
+        let count = count_bytes(tail);
+        return with_number(count, Request::Open(or_zero(count)));
     }
     if is(verb, b"lookup") {
         return lookup_of(tail);

@@ -5,7 +5,7 @@ use script::rest;
 use script::word;
 ghost use mathlib.Core.Path.{_≡_};
 ghost use Rattle.script.specs.Words.{wordsOf};
-ghost use Rattle.replay.specs.Fields.{isNone, onlyWord, belowOf, countFrom, byteOf, laid, powerOn, stored};
+ghost use Rattle.replay.specs.Fields.{isNone, onlyWord, belowOf, countFrom, orZero, byteOf, laid, powerOn, stored};
 
 pub fn is_bare(tail: &[u8]) -> bool
     ensures { λ r. ⌜ r ≡ isNone (wordsOf (now (tail .entry))) ⌝ }
@@ -62,15 +62,22 @@ pub fn count_bytes(tail: &[u8]) -> Number
     }
 }
 
+// The number, and 0 where there is none.
+pub fn or_zero(number: Number) -> usize
+    ensures { λ r. ⌜ r ≡ orZero number ⌝ }
+{
+    match number {
+        Number::Is(n) => n as usize,
+        Number::Nothing => 0,
+    }
+}
+
 // The byte that a word is, and 0 where it is none.
 fn byte_of(byte: &[u8]) -> u8
     ensures { λ r. ⌜ r ≡ byteOf (now (byte .entry)) ⌝ }
 {
     let number = below(256, number_of(byte));
-    match number {
-        Number::Is(b) => b as u8,
-        Number::Nothing => 0,
-    }
+    or_zero(number) as u8
 }
 
 // Stores nothing past the end.

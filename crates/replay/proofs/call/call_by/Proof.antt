@@ -1,8 +1,10 @@
 -- `replay::call::call_by` meets its contract. Assumes nothing.
 use borrow.Author.Needs.{needs}
 use mathlib.Core.Path.{sym, ap, _∙_}
-use Rattle.replay.specs.Calls.{callBy, openOf}
-use Rattle.replay.proofs.CallLaws.{chosen-here, chosen-on}
+use Rattle.script.specs.declared.numbers.Number.{Number}
+use Rattle.replay.specs.declared.call.Request.the-variants.{Open}
+use Rattle.replay.specs.Calls.{callBy, withNumber}
+use Rattle.replay.proofs.CallLaws.{with-number, chosen-here, chosen-on}
 use Rattle.replay.proofs.call.call_by.Statement.{statement}
 use Rattle.replay.proofs.call.call_by.Tie as tie
 
@@ -15,12 +17,15 @@ is-requires c κs = search needs
 count-bytes-requires : tie.Need-count-bytes-requires
 count-bytes-requires c κs = search needs
 
-open-of-requires : tie.Need-open-of-requires
-open-of-requires c κs = search needs
+or-zero-requires : tie.Need-or-zero-requires
+or-zero-requires c κs = search needs
+
+with-number-requires : tie.Need-with-number-requires
+with-number-requires c κs = search needs
 
 returns : tie.Need-returns
 unfolding callBy
-returns c = chosen-here _ _ _ (sym (c .before .before .before .is .ensures) ∙ c .before .before .if1 .taken) (c .open-of .ensures ∙ ap openOf (c .before .count-bytes .ensures))
+returns c = chosen-here _ _ _ (sym (c .before .before .before .before .is .ensures) ∙ c .before .before .before .if1 .taken) (c .with-number .ensures ∙ with-number _ Open _ (c .before .or-zero .ensures) ∙ ap (λ (n : Number). withNumber n Open) (c .before .before .count-bytes .ensures))
 
 slice-aggregate-is-2 : tie.Need-slice-aggregate-is-2
 slice-aggregate-is-2 c = search needs
@@ -107,7 +112,8 @@ call-by-spec =
     slice-aggregate-is
     is-requires
     count-bytes-requires
-    open-of-requires
+    or-zero-requires
+    with-number-requires
     returns
     slice-aggregate-is-2
     is-requires-2

@@ -1,8 +1,13 @@
 -- `replay::call::operation_of` meets its contract. Assumes nothing.
+use native.Mathlib.Omega.{arith}
 use mathlib.Core.Path.{sym, ap, _∙_}
 use Rattle.script.specs.Numbers.{numberOf}
-use Rattle.replay.specs.Calls.{readOf, confirmOf}
-use Rattle.replay.proofs.CallLaws.{chosen-here, chosen-on, chosen-none}
+use Rattle.script.specs.declared.numbers.Number.{Number}
+use Rattle.replay.specs.declared.call.Request.the-variants.{Read, Confirm}
+use Rattle.replay.specs.Fields.{belowOf}
+use Rattle.replay.specs.Calls.{withNumber}
+use Rattle.replay.proofs.FieldLaws.{below-small}
+use Rattle.replay.proofs.CallLaws.{with-number, chosen-here, chosen-on, chosen-none}
 use borrow.Author.Needs.{needs}
 use Rattle.replay.proofs.call.operation_of.Statement.{statement}
 use Rattle.replay.proofs.call.operation_of.Tie as tie
@@ -19,11 +24,14 @@ only-word-requires c κs = search needs
 number-of-requires : tie.Need-number-of-requires
 number-of-requires c κs = search needs
 
-read-of-requires : tie.Need-read-of-requires
-read-of-requires c κs = search needs
+or-zero-requires : tie.Need-or-zero-requires
+or-zero-requires c κs = search needs
+
+with-number-requires : tie.Need-with-number-requires
+with-number-requires c κs = search needs
 
 returns : tie.Need-returns
-returns c = chosen-here _ _ _ (sym (c .before .before .before .before .is .ensures) ∙ c .before .before .before .if1 .taken) (c .read-of .ensures ∙ ap readOf (c .before .number-of .ensures ∙ ap numberOf (c .before .before .only-word .ensures)))
+returns c = chosen-here _ _ _ (sym (c .before .before .before .before .before .is .ensures) ∙ c .before .before .before .before .if1 .taken) (c .with-number .ensures ∙ with-number _ Read _ (c .before .or-zero .ensures) ∙ ap (λ (n : Number). withNumber n Read) (c .before .before .number-of .ensures ∙ ap numberOf (c .before .before .before .only-word .ensures)))
 
 slice-aggregate-is-2 : tie.Need-slice-aggregate-is-2
 slice-aggregate-is-2 c = search needs
@@ -49,11 +57,20 @@ only-word-requires-2 c κs = search needs
 number-of-requires-2 : tie.Need-number-of-requires-2
 number-of-requires-2 c κs = search needs
 
-confirm-of-requires : tie.Need-confirm-of-requires
-confirm-of-requires c κs = search needs
+below-requires : tie.Need-below-requires
+below-requires c κs = search needs
+
+or-zero-requires-2 : tie.Need-or-zero-requires-2
+or-zero-requires-2 c κs = search needs
+
+cast-b : tie.Need-cast-b
+cast-b c = omega (arith, c .or-zero2 .ensures, below-small 256 _ _ (omega arith) (c .before .below .ensures))
+
+with-number-requires-2 : tie.Need-with-number-requires-2
+with-number-requires-2 c κs = search needs
 
 returns-3 : tie.Need-returns-3
-returns-3 c = chosen-on _ _ _ (sym (c .before .before .before .before .before .before .before .before .before .before .is .ensures) ∙ c .before .before .before .before .before .before .before .before .before .if1 .left) (chosen-on _ _ _ (sym (c .before .before .before .before .before .before .before .is2 .ensures) ∙ c .before .before .before .before .before .before .if2 .left) (chosen-here _ _ _ (sym (c .before .before .before .before .is3 .ensures) ∙ c .before .before .before .if3 .taken) (c .confirm-of .ensures ∙ ap confirmOf (c .before .number-of2 .ensures ∙ ap numberOf (c .before .before .only-word2 .ensures)))))
+returns-3 c = chosen-on _ _ _ (sym (c .before .before .before .before .before .before .before .before .before .before .before .before .is .ensures) ∙ c .before .before .before .before .before .before .before .before .before .before .before .if1 .left) (chosen-on _ _ _ (sym (c .before .before .before .before .before .before .before .before .before .is2 .ensures) ∙ c .before .before .before .before .before .before .before .before .if2 .left) (chosen-here _ _ _ (sym (c .before .before .before .before .before .before .is3 .ensures) ∙ c .before .before .before .before .before .if3 .taken) (c .with-number2 .ensures ∙ with-number _ Confirm _ (c .before .or-zero2 .ensures) ∙ ap (λ (n : Number). withNumber n Confirm) (c .before .before .below .ensures ∙ ap (belowOf 256) (c .before .before .before .number-of2 .ensures ∙ ap numberOf (c .before .before .before .before .only-word2 .ensures))))))
 
 slice-aggregate-is-4 : tie.Need-slice-aggregate-is-4
 slice-aggregate-is-4 c = search needs
@@ -78,7 +95,8 @@ operation-of-spec =
     is-requires
     only-word-requires
     number-of-requires
-    read-of-requires
+    or-zero-requires
+    with-number-requires
     returns
     slice-aggregate-is-2
     is-requires-2
@@ -88,7 +106,10 @@ operation-of-spec =
     is-requires-3
     only-word-requires-2
     number-of-requires-2
-    confirm-of-requires
+    below-requires
+    or-zero-requires-2
+    cast-b
+    with-number-requires-2
     returns-3
     slice-aggregate-is-4
     is-requires-4
