@@ -49,17 +49,14 @@ pub bit-none : (b : ℕ) → bit b 0 ≡ false
 unfolding bit
 bit-none b = ap (λ (k : ℕ). eqb (k % 2) 1) (zero-div (2 ^ b))
 
-second : (a b : Bool) → (a && b) ≡ false → a ≡ true → b ≡ false
-second true b h e = h
-second false b h e = absurd (false≢true e)
-
-within : (a b : Bool) → (a && b) ≡ a → a ≡ true → b ≡ true
-within true b h e = h
-within false b h e = absurd (false≢true e)
+-- where the first of two passes, both say what the second says
+second : (a b r : Bool) → (a && b) ≡ r → a ≡ true → b ≡ r
+second true b r h e = h
+second false b r h e = absurd (false≢true e)
 
 -- two masks with no bit in common; one mask inside another
 pub bits-apart : (m n : ℕ) → bitAnd m n ≡ 0 → (b : ℕ) → bit b m ≡ true → bit b n ≡ false
-bits-apart m n h b e = second (bit b m) (bit b n) (sym (bit-and b m n) ∙ ap (bit b) h ∙ bit-none b) e
+bits-apart m n h b e = second (bit b m) (bit b n) false (sym (bit-and b m n) ∙ ap (bit b) h ∙ bit-none b) e
 
 pub bits-inside : (m n : ℕ) → bitAnd m n ≡ m → (b : ℕ) → bit b m ≡ true → bit b n ≡ true
-bits-inside m n h b e = within (bit b m) (bit b n) (sym (bit-and b m n) ∙ ap (bit b) h) e
+bits-inside m n h b e = second (bit b m) (bit b n) true (sym (bit-and b m n) ∙ ap (bit b) h ∙ e) e
