@@ -7,7 +7,7 @@ use mathlib.Core.Bool.{Bool, true, false, _&&_, not, false≢true}
 use mathlib.Core.List.{List, _++_}
 use lib.Dec.{leb, ltb}
 use lib.ListN.{length, drop, replicate, length-replicate, length-append}
-use borrow.Author.Tests.{le-leb, leb-true, leb-false, ltb-false}
+use borrow.Author.Tests.{eq-eqb, le-leb, leb-true, leb-false, ltb-false}
 use Rattle.syntax.specs.declared.reader.Step.{Step}
 use Rattle.syntax.specs.declared.reader.Step.the-variants.{At, Refused as Stopped}
 use Rattle.syntax.specs.Text.{Progress}
@@ -15,12 +15,10 @@ use Rattle.syntax.proofs.Folded.{reading-folds}
 use Rattle.tables.specs.Every.{every, firstOf, zeros, zerosFront}
 use Rattle.tables.specs.Tables.{countOf}
 use Rattle.tables.specs.Rules.{covered}
-use Rattle.tables.specs.Scan.{bitMap, heldMap, pulledMap, Before}
 use Rattle.tables.specs.Sound as S
 use Rattle.tables.specs.View.{Tables, sound}
-use Rattle.tables.proofs.Laws.{every-at, first-le}
-use Rattle.tables.proofs.ScanLaws.{uncovered-says}
-use Rattle.tables.proofs.Growth.{so-far-none, covered-all, so-far-sound}
+use Rattle.tables.proofs.Laws.{every-at, first-last, first-le}
+use Rattle.tables.proofs.Growth.{so-far-none, so-far-sound}
 use Rattle.rules.specs.Fault.{isFault}
 use Rattle.rules.specs.State.{State}
 use Rattle.rules.proofs.FaultLaws.{no-number}
@@ -107,9 +105,6 @@ module _ (p : Progress State) (reached : Reached p) (some : Some p) (a : Accepti
   some-parameter : 1 ≤ countOf ps
   some-parameter = register-needs ps rs 0 (every-at (countOf rs) (S.registerGood ps rs) (grown .so-far .registers) 0 (let l = some-register in omega arith))
 
-  before : (q : ℕ) → Before vs q (countOf vs) (bitMap vs q (countOf vs)) (heldMap vs q (countOf vs)) (pulledMap vs q (countOf vs))
-  before q = record { bits-are = refl; held-are = refl; pulled-are = refl }
-
   -- rule 16: no register is uncovered
   covers : every (countOf rs) (λ i. covered rs vs (countOf vs) 0 i && covered rs vs (countOf vs) 1 i) ≡ true
   unfolding firstUncovered
@@ -117,7 +112,7 @@ module _ (p : Progress State) (reached : Reached p) (some : Some p) (a : Accepti
       let n = countOf rs in
       let last : firstOf n (λ i. not (covered rs vs (countOf vs) 0 i && covered rs vs (countOf vs) 1 i)) ≡ n =
       omega (arith, ltb-false _ n (a .covering), first-le n (λ i. not (covered rs vs (countOf vs) 0 i && covered rs vs (countOf vs) 1 i))) in
-      covered-all rs vs (countOf vs) _ few-registers (before 0) (before 1) refl (uncovered-says rs vs (countOf vs) few-registers ∙ last)
+      sym (first-last n (λ i. covered rs vs (countOf vs) 0 i && covered rs vs (countOf vs) 1 i)) ∙ eq-eqb _ n last
 
   module _ (x y z : List ℕ) where
     fits : S.tablesFit (ps ++ x) (rs ++ y) (vs ++ z) ≡ true

@@ -1,40 +1,23 @@
 -- A variable that breaks no rule makes the tables grow as `Growth` wants it.
 -- Assumes nothing.
-use Prim.Native.Nat.{ℕ, _+_, _≤_, _<_, min}
+use Prim.Native.Nat.{ℕ, _+_, _≤_, _<_}
 use native.Mathlib.Omega.{arith}
-use native.Mathlib.Nat.{min-eq-left, min-eq-right}
-use mathlib.Core.Path.{_≡_, refl, sym, ap, _∙_}
-use mathlib.Core.Bool.{Bool, true, false, cond}
+use mathlib.Core.Path.{_≡_, refl, ap, _∙_}
+use mathlib.Core.Bool.{true, cond}
 use mathlib.Core.List.{List}
-use lib.Dec.{eqb, leb}
 use lib.ListN.{length}
-use borrow.Author.Tests.{eqb-true, eqb-false, leb-true, leb-false}
 use Rattle.syntax.specs.Variable.{VariableRead}
 use Rattle.tables.specs.Tables.{countOf, variableAt}
 use Rattle.tables.specs.Rules.{variableFault, variableShape}
 use Rattle.tables.specs.Sound.{variableGood}
 use Rattle.tables.proofs.Growth.{Added, variable-added}
 use Rattle.rules.specs.State.{State, withVariables}
-use Rattle.rules.specs.Variable.{badBehaviours, lowest, listOf, earlyFault, variablesWith, lateNumber, addedVariable, judgeVariable}
+use Rattle.rules.specs.Variable.{badBehaviours, listOf, earlyFault, variablesWith, lateNumber, addedVariable, judgeVariable}
 use Rattle.rules.proofs.JudgingLaws.{unbroken}
-use Rattle.rules.proofs.VariableLaws.{late-none}
+use Rattle.rules.proofs.VariableLaws.{late-none, lowest-none}
 use Rattle.loader.proofs.PieceCounts.{WellRead}
 use Rattle.loader.proofs.VariableReady.{early-eleven, variable-length, variable-adds, entry-shaped}
 use Rattle.rules.proofs.Growing.{Growing}
-
--- the lower of two numbers of rules is none: so is the first
-lowest-none : (a b : ℕ) → lowest a b ≡ 0 → a ≡ 0
-unfolding lowest
-lowest-none a b h = go (eqb a 0) refl (eqb b 0) refl (leb a b) refl
-  where
-    go : (x : Bool) → eqb a 0 ≡ x → (y : Bool) → eqb b 0 ≡ y → (z : Bool) → leb a b ≡ z → a ≡ 0
-    go true e y f z g = eqb-true a 0 e
-    go false e true f z g = sym (rw (e, f)) ∙ h
-    go false e false f true g = sym (min-eq-left (leb-true a b g)) ∙ sym (rw (e, f)) ∙ h
-    go false e false f false g =
-        let m : min a b ≡ b = min-eq-right (let l = leb-false a b g in omega arith) in
-        let z : b ≡ 0 = sym m ∙ sym (rw (e, f)) ∙ h in
-        absurd (eqb-false b 0 f z)
 
 variable-good : (rs vs : List ℕ) (i : ℕ) → variableShape vs i ≡ true → variableFault rs vs i ≡ 0 → variableGood rs vs i ≡ true
 unfolding variableGood

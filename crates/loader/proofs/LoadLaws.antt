@@ -17,7 +17,7 @@ use Rattle.syntax.proofs.Folded.{reading-folds}
 use Rattle.tables.specs.Every.{every, firstOf}
 use Rattle.tables.specs.Words.{countOf}
 use Rattle.tables.specs.Scan.{coveredBy}
-use Rattle.tables.proofs.Growth.{before-none}
+use Rattle.tables.proofs.SoundLaws.{mapped-none}
 use Rattle.tables.proofs.ScanLaws.{uncovered-says}
 use Rattle.tables.specs.View.{Tables}
 use Rattle.rules.specs.declared.fault.Fault.{Fault}
@@ -51,7 +51,7 @@ starts ps rs vs b = rw (b .parameters, b .registers, b .variables)
 
 -- nothing is counted or marked yet
 ready-at : (p : Progress State) → None p → p .made .registers ≡ replicate 961 0 → p .made .variables ≡ replicate 7553 0
-    → Ready p (replicate 2048 0) (replicate 64 0) (replicate 64 0) (replicate 2048 0) (replicate 64 0) (replicate 64 0)
+    → Ready p (replicate 2048 0) (replicate 2048 0)
 unfolding every
 ready-at p none r v =
     let zero-registers : countOf (p .made .registers) ≡ 0 = ap countOf r in
@@ -63,7 +63,7 @@ ready-at p none r v =
       variables-few = omega (arith, none .1);
       long = ap length v ∙ length-replicate {A = ℕ} 7553 0;
       shaped = λ z. rw zero-variables;
-      mapped = λ z. rw zero-variables (record { read = before-none (p .made .variables) 0; write = before-none (p .made .variables) 1 });
+      mapped = λ z. rw zero-variables (mapped-none (p .made .variables));
     }
 
 -- to judge the declarations as they are read is to judge the list of them
@@ -81,7 +81,7 @@ module _ (text : List ℕ) (ps rs vs : List ℕ) (blank : Blank ps rs vs) where
     counted-none : None (progressOf headed qs rs vs)
     counted-none = subst None (sym from-start) (none-parameters text first (refl, refl))
 
-    pub ready-start : Ready (progressOf headed qs rs vs) (replicate 2048 0) (replicate 64 0) (replicate 64 0) (replicate 2048 0) (replicate 64 0) (replicate 64 0)
+    pub ready-start : Ready (progressOf headed qs rs vs) (replicate 2048 0) (replicate 2048 0)
     unfolding progressOf stateOf
     ready-start = ready-at (progressOf headed qs rs vs) counted-none (blank .registers) (blank .variables)
 
@@ -103,18 +103,18 @@ judged-same fault a b ps rs vs h = go (isFault fault) refl
     go true e = rw e
     go false e = ap (λ (n : ℕ). judgedAs fault n ps rs vs) (h (no-number fault e))
 
-uncovered-is : (p : Progress State) {first : ℕ} {bits held pulled bits1 held1 pulled1 : List ℕ} → Ready p bits held pulled bits1 held1 pulled1
-    → first ≡ firstOf (countOf (p .made .registers)) (λ i. not (coveredBy (p .made .registers) bits 0 i && coveredBy (p .made .registers) bits1 1 i))
+uncovered-is : (p : Progress State) {first : ℕ} {reads writes : List ℕ} → Ready p reads writes
+    → first ≡ firstOf (countOf (p .made .registers)) (λ i. not (coveredBy (p .made .registers) reads 0 i && coveredBy (p .made .registers) writes 1 i))
     → p .made .fault .number ≡ 0 → first ≡ firstUncovered (p .made .registers) (p .made .variables)
 unfolding firstUncovered
 uncovered-is p ready e z =
     let m = ready .mapped z in
-    e ∙ rw (m .read .bits-are, m .write .bits-are) (uncovered-says (p .made .registers) (p .made .variables) (countOf (p .made .variables)) (omega (arith, ready .registers-counted, ready .registers-few)))
+    e ∙ rw (m .read .is, m .write .is) (uncovered-says (p .made .registers) (p .made .variables) (countOf (p .made .variables)) (omega (arith, ready .registers-counted, ready .registers-few)))
 
 -- the verdict, over what the calls answered
-pub verdict-is : (text : List ℕ) (all : Loading) (ps rs vs : List ℕ) (end : Step) {first : ℕ} {rules answer : Verdict} {bits held pulled bits1 held1 pulled1 : List ℕ}
-    → movedTo (progressOf all ps rs vs) end ≡ judged text → Ready (progressOf all ps rs vs) bits held pulled bits1 held1 pulled1
-    → first ≡ firstOf (countOf rs) (λ i. not (coveredBy rs bits 0 i && coveredBy rs bits1 1 i))
+pub verdict-is : (text : List ℕ) (all : Loading) (ps rs vs : List ℕ) (end : Step) {first : ℕ} {rules answer : Verdict} {reads writes : List ℕ}
+    → movedTo (progressOf all ps rs vs) end ≡ judged text → Ready (progressOf all ps rs vs) reads writes
+    → first ≡ firstOf (countOf rs) (λ i. not (coveredBy rs reads 0 i && coveredBy rs writes 1 i))
     → rules ≡ judgedAs (all .judging .fault) first ps rs vs → answer ≡ onceRead end rules → answer ≡ verdictOf (judged text)
 unfolding verdictOf progressOf stateOf movedTo
 verdict-is text all ps rs vs end w ready u j a =

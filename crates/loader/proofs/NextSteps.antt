@@ -99,14 +99,14 @@ module _ (text : List ℕ) (l : Loading) (ps rs vs : List ℕ) where
       unfolding counted judge progressOf variableMore
       counted-is = rw (m, goes, s)
 
-      pub variable-ready : {bits held pulled bits1 held1 pulled1 bits′ held′ pulled′ bits1′ held1′ pulled1′ : List ℕ} → Ready here bits held pulled bits1 held1 pulled1 → MappedUnless (j .fault .number) qs (countOf vs + 1) bits′ held′ pulled′ bits1′ held1′ pulled1′
-          → Ready (progressOf after ps rs qs) bits′ held′ pulled′ bits1′ held1′ pulled1′
+      pub variable-ready : {reads writes reads′ writes′ : List ℕ} → Ready here reads writes → MappedUnless (j .fault .number) qs (countOf vs + 1) reads′ writes′
+          → Ready (progressOf after ps rs qs) reads′ writes′
       unfolding progressOf readOf unlessStopped stateOf
-      variable-ready {bits′ = bits′} {held′ = held′} {pulled′ = pulled′} {bits1′ = bits1′} {held1′ = held1′} {pulled1′ = pulled1′} ready mapped =
-          subst (λ (p : Progress State). Ready p bits′ held′ pulled′ bits1′ held1′ pulled1′) (sym counted-is)
+      variable-ready {reads′ = reads′} {writes′ = writes′} ready mapped =
+          subst (λ (p : Progress State). Ready p reads′ writes′) (sym counted-is)
           (ready-variable text here (readOf one a b) next ready room (subst WellRead (sym e) (well-read text _ _ _)) (mapped-judged j ps rs qs (countOf vs + 1) s mapped))
 
   -- a move leaves all that is kept as it was
-  pub ready-still : {r : Loading} (s : Step) {bits held pulled bits1 held1 pulled1 : List ℕ} → r ≡ movedBy l s → Ready here bits held pulled bits1 held1 pulled1 → Ready (progressOf r ps rs vs) bits held pulled bits1 held1 pulled1
-  ready-still s {bits = bits} {held = held} {pulled = pulled} {bits1 = bits1} {held1 = held1} {pulled1 = pulled1} m ready =
-      subst (λ (p : Progress State). Ready p bits held pulled bits1 held1 pulled1) (sym (moved-to l s ps rs vs m)) (ready-moved [] here ready s)
+  pub ready-still : {r : Loading} (s : Step) {reads writes : List ℕ} → r ≡ movedBy l s → Ready here reads writes → Ready (progressOf r ps rs vs) reads writes
+  ready-still s {reads = reads} {writes = writes} m ready =
+      subst (λ (p : Progress State). Ready p reads writes) (sym (moved-to l s ps rs vs m)) (ready-moved [] here ready s)

@@ -56,8 +56,8 @@ register-kept text s r = go (isFault (s .fault)) (isFault (registerWritten text 
         rw (e, g)
         (record { registers = count-after 15 (s .registers) (registerEntry text (s .parameters) r); variables = refl; fault = λ z. no-number (s .fault) e })
 
-module _ (text : List ℕ) (p : Progress State) {bits held pulled bits1 held1 pulled1 : List ℕ} (ready : Ready p bits held pulled bits1 held1 pulled1) where
-  pub ready-moved : (s : Step) → Ready (movedTo p s) bits held pulled bits1 held1 pulled1
+module _ (text : List ℕ) (p : Progress State) {reads writes : List ℕ} (ready : Ready p reads writes) where
+  pub ready-moved : (s : Step) → Ready (movedTo p s) reads writes
   unfolding movedTo
   ready-moved s =
       record {
@@ -70,7 +70,7 @@ module _ (text : List ℕ) (p : Progress State) {bits held pulled bits1 held1 pu
         mapped = ready .mapped;
       }
 
-  ready-counted : (r : Register) (next : ℕ) → leb 64 (p .registers) ≡ false → Ready (counted (judge text) p (aRegister r) next) bits held pulled bits1 held1 pulled1
+  ready-counted : (r : Register) (next : ℕ) → leb 64 (p .registers) ≡ false → Ready (counted (judge text) p (aRegister r) next) reads writes
   unfolding counted judge
   ready-counted r next room =
       let k = register-kept text (p .made) r in
@@ -84,12 +84,12 @@ module _ (text : List ℕ) (p : Progress State) {bits held pulled bits1 held1 pu
         mapped = λ z. rw (k .variables) (ready .mapped (k .fault z));
       }
 
-  pub ready-register : Ready (registerWith (judge text) text p) bits held pulled bits1 held1 pulled1
+  pub ready-register : Ready (registerWith (judge text) text p) reads writes
   unfolding registerWith taken
   ready-register = go (leb 64 (p .registers)) refl (fixedAfter text 315 (registerAfter text (p .step) .step)) refl
     where
       go : (b : Bool) → leb 64 (p .registers) ≡ b → (s : Step) → fixedAfter text 315 (registerAfter text (p .step) .step) ≡ s
-          → Ready (registerWith (judge text) text p) bits held pulled bits1 held1 pulled1
+          → Ready (registerWith (judge text) text p) reads writes
       go true e s g = rw e (ready-moved (extraAfter text 529 (p .step)))
       go false e (Refused number place) g = rw (e, g) (ready-moved (Refused number place))
       go false e (At next) g = rw (e, g) (ready-counted (registerAfter text (p .step)) next e)

@@ -169,12 +169,12 @@ module _ (text : List ℕ) (s : State) (it : VariableRead) where
       go false e false g = (rw (e, g), inr (rw (e, g)))
 
 pub ready-variable : (text : List ℕ) (p : Progress State) (it : VariableRead) (next : ℕ)
-    {bits held pulled bits1 held1 pulled1 bits′ held′ pulled′ bits1′ held1′ pulled1′ : List ℕ} → Ready p bits held pulled bits1 held1 pulled1
+    {reads writes reads′ writes′ : List ℕ} → Ready p reads writes
     → leb 128 (p .variables) ≡ false → WellRead (it .variable)
-    → MappedUnless (after text (p .made) it .fault .number) (after text (p .made) it .variables) (countOf (p .made .variables) + 1) bits′ held′ pulled′ bits1′ held1′ pulled1′
-    → Ready (counted (judge text) p (aVariable it) next) bits′ held′ pulled′ bits1′ held1′ pulled1′
+    → MappedUnless (after text (p .made) it .fault .number) (after text (p .made) it .variables) (countOf (p .made .variables) + 1) reads′ writes′
+    → Ready (counted (judge text) p (aVariable it) next) reads′ writes′
 unfolding counted judge
-ready-variable text p it next {bits′ = bits′} {held′ = held′} {pulled′ = pulled′} {bits1′ = bits1′} {held1′ = held1′} {pulled1′ = pulled1′} ready room w mapped =
+ready-variable text p it next {reads′ = reads′} {writes′ = writes′} ready room w mapped =
     let s = p .made in
     let vs = s .variables in
     let only = only-variables text s it in
@@ -200,11 +200,11 @@ ready-variable text p it next {bits′ = bits′} {held′ = held′} {pulled′
     }
 
 -- what judging the variable asks for, and what its answer says of the maps
-module _ (p : Progress State) {bits held pulled bits1 held1 pulled1 : List ℕ} (ready : Ready p bits held pulled bits1 held1 pulled1) where
+module _ (p : Progress State) {reads writes : List ℕ} (ready : Ready p reads writes) where
   pub judged-asks : (d : Variable) → leb 128 (p .variables) ≡ false → WellRead d
       → (countOf (p .made .registers) ≤ 64) × ((countOf (p .made .variables) < 32768) × ((d .count ≤ 8) × ((d .rest .count ≤ 8)
       × ((p .made .fault .number ≡ 0 → every (countOf (p .made .variables)) (variableShape (p .made .variables)) ≡ true)
-      × MappedUnless (p .made .fault .number) (p .made .variables) (countOf (p .made .variables)) bits held pulled bits1 held1 pulled1))))
+      × MappedUnless (p .made .fault .number) (p .made .variables) (countOf (p .made .variables)) reads writes))))
   judged-asks d room w = (
     omega (arith, ready .registers-counted, ready .registers-few),
     (
@@ -219,8 +219,8 @@ module _ (p : Progress State) {bits held pulled bits1 held1 pulled1 : List ℕ} 
     ),
   )
 
-pub mapped-judged : (j : Judging) (ps rs vs : List ℕ) {s : State} (n : ℕ) {bits held pulled bits1 held1 pulled1 : List ℕ} → stateOf j ps rs vs ≡ s
-    → MappedUnless (j .fault .number) vs n bits held pulled bits1 held1 pulled1 → MappedUnless (s .fault .number) (s .variables) n bits held pulled bits1 held1 pulled1
+pub mapped-judged : (j : Judging) (ps rs vs : List ℕ) {s : State} (n : ℕ) {reads writes : List ℕ} → stateOf j ps rs vs ≡ s
+    → MappedUnless (j .fault .number) vs n reads writes → MappedUnless (s .fault .number) (s .variables) n reads writes
 unfolding stateOf
-mapped-judged j ps rs vs n {bits} {held} {pulled} {bits1} {held1} {pulled1} e m =
-    subst (λ (t : State). MappedUnless (t .fault .number) (t .variables) n bits held pulled bits1 held1 pulled1) e m
+mapped-judged j ps rs vs n {reads} {writes} e m =
+    subst (λ (t : State). MappedUnless (t .fault .number) (t .variables) n reads writes) e m

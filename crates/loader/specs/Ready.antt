@@ -12,11 +12,11 @@ use Rattle.rules.specs.State.{State}
 use Rattle.rules.specs.Variable.{MappedUnless}
 
 -- no table counts more than was read; where no rule is broken, the variables have their shape and the maps are theirs
-pub record Ready (p : Progress State) (bits held pulled bits1 held1 pulled1 : List ℕ) : Type 0 where
+pub record Ready (p : Progress State) (reads writes : List ℕ) : Type 0 where
   pub registers-counted : countOf (p .made .registers) ≤ p .registers
   pub registers-few : p .registers ≤ 64
   pub variables-counted : countOf (p .made .variables) ≤ p .variables
   pub variables-few : p .variables ≤ 128
   pub long : length (p .made .variables) ≡ 7553
   pub shaped : p .made .fault .number ≡ 0 → every (countOf (p .made .variables)) (variableShape (p .made .variables)) ≡ true
-  pub mapped : MappedUnless (p .made .fault .number) (p .made .variables) (countOf (p .made .variables)) bits held pulled bits1 held1 pulled1
+  pub mapped : MappedUnless (p .made .fault .number) (p .made .variables) (countOf (p .made .variables)) reads writes

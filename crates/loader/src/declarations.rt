@@ -71,21 +71,17 @@ fn variable_judged(
     variable: Variable,
     first: &[usize],
     second: &[usize],
-    bits: &mut [u8],
-    held: &mut [u8],
-    pulled: &mut [u8],
-    bits1: &mut [u8],
-    held1: &mut [u8],
-    pulled1: &mut [u8],
+    reads: &mut [u8],
+    writes: &mut [u8],
 ) -> Judging
     requires { ⌜ countOf (now registers) ≤ 64 ⌝ }
     requires { ⌜ countOf (now variables) < 2 ^ 15 ⌝ }
     requires { ⌜ variable .count ≤ 8 ⌝ }
     requires { ⌜ variable .rest .count ≤ 8 ⌝ }
     requires { ⌜ (judging .fault .number ≡ 0 → every (countOf (now variables)) (variableShape (now variables)) ≡ true) ⌝ }
-    requires { ⌜ MappedUnless (judging .fault .number) (now variables) (countOf (now variables)) (now bits) (now held) (now pulled) (now bits1) (now held1) (now pulled1) ⌝ }
+    requires { ⌜ MappedUnless (judging .fault .number) (now variables) (countOf (now variables)) (now reads) (now writes) ⌝ }
     ensures judged { λ r. ⌜ stateOf r (now (parameters .entry)) (now (registers .entry)) (now (variables .exit)) ≡ unlessStopped (stateOf judging (now (parameters .entry)) (now (registers .entry)) (now (variables .entry))) (judgeVariable (now (text .entry)) (stateOf judging (now (parameters .entry)) (now (registers .entry)) (now (variables .entry))) (readOf variable (now (first .entry)) (now (second .entry)))) ⌝ }
-    ensures mapped { λ r. ⌜ MappedUnless (r .fault .number) (now (variables .exit)) (countOf (now (variables .entry)) + 1) (now (bits .exit)) (now (held .exit)) (now (pulled .exit)) (now (bits1 .exit)) (now (held1 .exit)) (now (pulled1 .exit)) ⌝ }
+    ensures mapped { λ r. ⌜ MappedUnless (r .fault .number) (now (variables .exit)) (countOf (now (variables .entry)) + 1) (now (reads .exit)) (now (writes .exit)) ⌝ }
 {
     let so_far = judging.fault;
     if fault::is_fault(so_far) {
@@ -100,12 +96,8 @@ fn variable_judged(
         variable,
         first,
         second,
-        bits,
-        held,
-        pulled,
-        bits1,
-        held1,
-        pulled1,
+        reads,
+        writes,
     )
 }
 
@@ -129,21 +121,16 @@ fn variable_next(
     parameters: &[u32],
     registers: &[u32],
     variables: &mut [u32],
-    bits: &mut [u8],
-    held: &mut [u8],
-    pulled: &mut [u8],
-    bits1: &mut [u8],
-    held1: &mut [u8],
-    pulled1: &mut [u8],
+    reads: &mut [u8],
+    writes: &mut [u8],
 ) -> Loading
-    requires { ⌜ Ready (progressOf loading (now parameters) (now registers) (now variables)) (now bits) (now held) (now pulled) (now bits1) (now held1) (now pulled1) ⌝ }
+    requires { ⌜ Ready (progressOf loading (now parameters) (now registers) (now variables)) (now reads) (now writes) ⌝ }
     ensures read { λ r. ⌜ progressOf r (now (parameters .entry)) (now (registers .entry)) (now (variables .exit)) ≡ variableWith (judge (now (text .entry))) (now (text .entry)) (progressOf loading (now (parameters .entry)) (now (registers .entry)) (now (variables .entry))) ⌝ }
-    ensures ready { λ r. ⌜ Ready (progressOf r (now (parameters .entry)) (now (registers .entry)) (now (variables .exit))) (now (bits .exit)) (now (held .exit)) (now (pulled .exit)) (now (bits1 .exit)) (now (held1 .exit)) (now (pulled1 .exit)) ⌝ }
+    ensures ready { λ r. ⌜ Ready (progressOf r (now (parameters .entry)) (now (registers .entry)) (now (variables .exit))) (now (reads .exit)) (now (writes .exit)) ⌝ }
 {
     let from = loading.step;
     if 128 <= loading.variables {
-        let extra = syntax::extra_after(text, VARIABLE, from);
-        return moved(loading, extra);
+        return moved(loading, syntax::extra_after(text, VARIABLE, from));
     }
     let mut first = [0usize; 40];
     let mut second = [0usize; 40];
@@ -163,12 +150,8 @@ fn variable_next(
         one,
         &first,
         &second,
-        bits,
-        held,
-        pulled,
-        bits1,
-        held1,
-        pulled1,
+        reads,
+        writes,
     );
     with_variable(loading, judging, end)
 }
@@ -180,16 +163,12 @@ fn declaration_next(
     parameters: &[u32],
     registers: &mut [u32],
     variables: &mut [u32],
-    bits: &mut [u8],
-    held: &mut [u8],
-    pulled: &mut [u8],
-    bits1: &mut [u8],
-    held1: &mut [u8],
-    pulled1: &mut [u8],
+    reads: &mut [u8],
+    writes: &mut [u8],
 ) -> Loading
-    requires { ⌜ Ready (progressOf loading (now parameters) (now registers) (now variables)) (now bits) (now held) (now pulled) (now bits1) (now held1) (now pulled1) ⌝ }
+    requires { ⌜ Ready (progressOf loading (now parameters) (now registers) (now variables)) (now reads) (now writes) ⌝ }
     ensures read { λ r. ⌜ progressOf r (now (parameters .entry)) (now (registers .exit)) (now (variables .exit)) ≡ declarationWith (judge (now (text .entry))) (now (text .entry)) (progressOf loading (now (parameters .entry)) (now (registers .entry)) (now (variables .entry))) ⌝ }
-    ensures ready { λ r. ⌜ Ready (progressOf r (now (parameters .entry)) (now (registers .exit)) (now (variables .exit))) (now (bits .exit)) (now (held .exit)) (now (pulled .exit)) (now (bits1 .exit)) (now (held1 .exit)) (now (pulled1 .exit)) ⌝ }
+    ensures ready { λ r. ⌜ Ready (progressOf r (now (parameters .entry)) (now (registers .exit)) (now (variables .exit))) (now (reads .exit)) (now (writes .exit)) ⌝ }
 {
     let from = loading.step;
     let seen = syntax::look(text, from);
@@ -202,12 +181,8 @@ fn declaration_next(
         parameters,
         registers,
         variables,
-        bits,
-        held,
-        pulled,
-        bits1,
-        held1,
-        pulled1,
+        reads,
+        writes,
     )
 }
 
@@ -218,16 +193,12 @@ fn more_declarations(
     parameters: &[u32],
     registers: &mut [u32],
     variables: &mut [u32],
-    bits: &mut [u8],
-    held: &mut [u8],
-    pulled: &mut [u8],
-    bits1: &mut [u8],
-    held1: &mut [u8],
-    pulled1: &mut [u8],
+    reads: &mut [u8],
+    writes: &mut [u8],
 ) -> Loading
-    requires { ⌜ Ready (progressOf loading (now parameters) (now registers) (now variables)) (now bits) (now held) (now pulled) (now bits1) (now held1) (now pulled1) ⌝ }
+    requires { ⌜ Ready (progressOf loading (now parameters) (now registers) (now variables)) (now reads) (now writes) ⌝ }
     ensures read { λ r. ⌜ progressOf r (now (parameters .entry)) (now (registers .exit)) (now (variables .exit)) ≡ moreDeclarations (judge (now (text .entry))) (now (text .entry)) (length (now (text .entry))) (progressOf loading (now (parameters .entry)) (now (registers .entry)) (now (variables .entry))) ⌝ }
-    ensures ready { λ r. ⌜ Ready (progressOf r (now (parameters .entry)) (now (registers .exit)) (now (variables .exit))) (now (bits .exit)) (now (held .exit)) (now (pulled .exit)) (now (bits1 .exit)) (now (held1 .exit)) (now (pulled1 .exit)) ⌝ }
+    ensures ready { λ r. ⌜ Ready (progressOf r (now (parameters .entry)) (now (registers .exit)) (now (variables .exit))) (now (reads .exit)) (now (writes .exit)) ⌝ }
 {
     let mut all = loading;
     let mut room = text.len();
@@ -237,19 +208,7 @@ fn more_declarations(
         if !syntax::declares(seen.kind) {
             return all;
         }
-        all = declaration_next(
-            text,
-            all,
-            parameters,
-            registers,
-            variables,
-            bits,
-            held,
-            pulled,
-            bits1,
-            held1,
-            pulled1,
-        );
+        all = declaration_next(text, all, parameters, registers, variables, reads, writes);
         room -= 1;
     }
     all
@@ -261,16 +220,12 @@ pub fn declarations_of(
     parameters: &[u32],
     registers: &mut [u32],
     variables: &mut [u32],
-    bits: &mut [u8],
-    held: &mut [u8],
-    pulled: &mut [u8],
-    bits1: &mut [u8],
-    held1: &mut [u8],
-    pulled1: &mut [u8],
+    reads: &mut [u8],
+    writes: &mut [u8],
 ) -> Loading
-    requires { ⌜ Ready (progressOf loading (now parameters) (now registers) (now variables)) (now bits) (now held) (now pulled) (now bits1) (now held1) (now pulled1) ⌝ }
+    requires { ⌜ Ready (progressOf loading (now parameters) (now registers) (now variables)) (now reads) (now writes) ⌝ }
     ensures read { λ r. ⌜ progressOf r (now (parameters .entry)) (now (registers .exit)) (now (variables .exit)) ≡ declarationsWith (judge (now (text .entry))) (now (text .entry)) (progressOf loading (now (parameters .entry)) (now (registers .entry)) (now (variables .entry))) ⌝ }
-    ensures ready { λ r. ⌜ Ready (progressOf r (now (parameters .entry)) (now (registers .exit)) (now (variables .exit))) (now (bits .exit)) (now (held .exit)) (now (pulled .exit)) (now (bits1 .exit)) (now (held1 .exit)) (now (pulled1 .exit)) ⌝ }
+    ensures ready { λ r. ⌜ Ready (progressOf r (now (parameters .entry)) (now (registers .exit)) (now (variables .exit))) (now (reads .exit)) (now (writes .exit)) ⌝ }
 {
     let from = loading.step;
     let open = syntax::fixed_after(text, OPEN_BRACE, from);
@@ -281,26 +236,10 @@ pub fn declarations_of(
         parameters,
         registers,
         variables,
-        bits,
-        held,
-        pulled,
-        bits1,
-        held1,
-        pulled1,
+        reads,
+        writes,
     );
-    let all = more_declarations(
-        text,
-        one,
-        parameters,
-        registers,
-        variables,
-        bits,
-        held,
-        pulled,
-        bits1,
-        held1,
-        pulled1,
-    );
+    let all = more_declarations(text, one, parameters, registers, variables, reads, writes);
     let after = all.step;
     let close = syntax::fixed_after(text, CLOSE_BRACE, after);
     moved(all, close)

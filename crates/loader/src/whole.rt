@@ -65,7 +65,7 @@ fn once_read(step: Step, verdict: Verdict) -> Verdict
 }
 
 // Nothing is read yet, and no rule is broken.
-fn at_start() -> Loading
+pub fn at_start() -> Loading
     ensures { λ r. ⌜ r ≡ atStart ⌝ }
 {
     Loading {
@@ -95,12 +95,8 @@ fn judge_text(
     ensures answered { λ r. ⌜ r ≡ verdictOf (judged (now (text .entry))) ⌝ }
     ensures left { λ _. ⌜ lentAs (now (parameters .exit)) (now (registers .exit)) (now (variables .exit)) ≡ tablesOf (judged (now (text .entry)) .made) ⌝ }
 {
-    let mut bits = [0u8; 2048];
-    let mut held = [0u8; 64];
-    let mut pulled = [0u8; 64];
-    let mut bits1 = [0u8; 2048];
-    let mut held1 = [0u8; 64];
-    let mut pulled1 = [0u8; 64];
+    let mut reads = [0u8; 2048];
+    let mut writes = [0u8; 2048];
     let start = at_start();
     let headed = parameters_of(text, start, parameters, registers, variables);
     let all = declarations_of(
@@ -109,18 +105,14 @@ fn judge_text(
         parameters,
         registers,
         variables,
-        &mut bits,
-        &mut held,
-        &mut pulled,
-        &mut bits1,
-        &mut held1,
-        &mut pulled1,
+        &mut reads,
+        &mut writes,
     );
     let after = all.step;
     let end = syntax::fixed_after(text, END, after);
     let judging = all.judging;
     let fault = judging.fault;
-    let first = uncovered(registers, &bits, &bits1);
+    let first = uncovered(registers, &reads, &writes);
     once_read(
         end,
         judged_as(fault, first, parameters, registers, variables),

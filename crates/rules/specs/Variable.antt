@@ -9,7 +9,7 @@ use Rattle.syntax.specs.declared.attribute.Behaviours.{Behaviours}
 use Rattle.syntax.specs.declared.variable.Variable.{Variable}
 use Rattle.syntax.specs.Variable.{VariableRead}
 use Rattle.tables.specs.Tables.{countOf, variableAt, variablePart}
-use Rattle.tables.specs.Scan.{Before}
+use Rattle.tables.specs.Scan.{Mapped}
 use Rattle.tables.specs.Rules.{variableFault}
 use Rattle.rules.specs.declared.fault.Fault.{Fault}
 use Rattle.rules.specs.declared.variable.Early.{Early}
@@ -83,9 +83,9 @@ module _ (text : List ℕ) (s : State) (it : VariableRead) where
   unfoldable pub earlyFault : Fault
   earlyFault = orElse nameFault (faultIf (eqb (listOf 0) 0 && eqb (listOf 1) 0) 11 (it .variable .place))
 
-  -- the same, with the lists that give the parts, as the code holds them
+  -- the same, with the lists that give the parts, and the pieces of the lists, as the code holds them
   unfoldable pub earlyOf : Early
-  earlyOf = record { fault = earlyFault; read = listOf 0; write = listOf 1 }
+  earlyOf = record { fault = earlyFault; read = listOf 0; write = listOf 1; firsts = firstPieces; seconds = secondPieces }
 
   abbrev pub variablesWith : List ℕ
   variablesWith = withVariable (s .variables) (it .variable) firstPieces secondPieces (listOf 0) (listOf 1)
@@ -106,11 +106,6 @@ module _ (text : List ℕ) (s : State) (it : VariableRead) where
 
 -- ── the maps that the code carries ──
 
--- those of the first n variables, for both parts
-pub record Mapped (vs : List ℕ) (n : ℕ) (bits held pulled bits1 held1 pulled1 : List ℕ) : Type 0 where
-  pub read : Before vs 0 n bits held pulled
-  pub write : Before vs 1 n bits1 held1 pulled1
-
--- the same, where no rule is broken: nobody asks for them after a fault
-abbrev pub MappedUnless : ℕ → List ℕ → ℕ → List ℕ → List ℕ → List ℕ → List ℕ → List ℕ → List ℕ → Type 0
-MappedUnless number vs n bits held pulled bits1 held1 pulled1 = number ≡ 0 → Mapped vs n bits held pulled bits1 held1 pulled1
+-- those of the first n variables, where no rule is broken: nobody asks for them after a fault
+abbrev pub MappedUnless : ℕ → List ℕ → ℕ → List ℕ → List ℕ → Type 0
+MappedUnless number vs n reads writes = number ≡ 0 → Mapped vs n reads writes

@@ -6,9 +6,10 @@ ghost use lib.ListN.{length, replicate};
 ghost use Rattle.tables.specs.Every.{every};
 ghost use Rattle.tables.specs.Tables.{countOf};
 ghost use Rattle.tables.specs.Rules.{variableFault, variableShape};
+ghost use Rattle.tables.specs.Scan.{Mapped};
 ghost use Rattle.rules.specs.Words.{written};
 ghost use Rattle.rules.specs.State.{stateOf};
-ghost use Rattle.rules.specs.Variable.{triggers, headWords, withVariable, badBehaviours, lowest, nameFault, firstPieces, secondPieces, earlyOf, readOf, judgeVariable, Mapped, MappedUnless};
+ghost use Rattle.rules.specs.Variable.{triggers, headWords, withVariable, badBehaviours, lowest, nameFault, firstPieces, secondPieces, earlyOf, readOf, judgeVariable, MappedUnless};
 use crate::declared::Judging;
 use crate::declared::declared_before;
 use crate::declared::with_fault;
@@ -23,7 +24,7 @@ use crate::words::narrow;
 use crate::words::put;
 use syntax::Behaviours;
 use syntax::Variable;
-use tables::faults::enter_part;
+use tables::faults::enter_variable;
 use tables::faults::variable_fault;
 use tables::words::pick;
 use tables::words::word;
@@ -116,30 +117,25 @@ pub fn late_number(
     behaviours: Behaviours,
     read: usize,
     write: usize,
-    bits: &[u8],
-    held: &[u8],
-    pulled: &[u8],
-    bits1: &[u8],
-    held1: &[u8],
-    pulled1: &[u8],
+    reads: &[u8],
+    writes: &[u8],
 ) -> u32
     requires { ⌜ v < 2 ^ 16 ⌝ }
     requires { ⌜ countOf (now registers) ≤ 64 ⌝ }
-    requires { ⌜ Mapped (now variables) v (now bits) (now held) (now pulled) (now bits1) (now held1) (now pulled1) ⌝ }
+    requires { ⌜ Mapped (now variables) v (now reads) (now writes) ⌝ }
     ensures { λ r. ⌜ r ≡ lowest (variableFault (now (registers .entry)) (now (variables .entry)) v) (cond (badBehaviours behaviours read write) 13 0) ⌝ }
 {
-    let entry = variable_fault(
-        registers,
-        variables,
-        v,
-        bits,
-        held,
-        pulled,
-        bits1,
-        held1,
-        pulled1,
-    );
+    let entry = variable_fault(registers, variables, v, reads, writes);
     lowest(entry, pick(bad_behaviours(behaviours, read, write), 13, 0))
+}
+
+// What breaks before there is an entry; the list that gives each part, and the pieces of both lists as the tables hold them.
+pub struct Early {
+    pub fault: Fault,
+    pub read: usize,
+    pub write: usize,
+    pub firsts: [u32; 24],
+    pub seconds: [u32; 24],
 }
 
 // Writes the entry and judges it; where it breaks no rule, the maps take it in.
@@ -147,30 +143,25 @@ pub fn enter(
     variables: &mut [u32],
     registers: &[u32],
     variable: Variable,
-    first: &[u32],
-    second: &[u32],
-    read: usize,
-    write: usize,
-    bits: &mut [u8],
-    held: &mut [u8],
-    pulled: &mut [u8],
-    bits1: &mut [u8],
-    held1: &mut [u8],
-    pulled1: &mut [u8],
+    early: Early,
+    reads: &mut [u8],
+    writes: &mut [u8],
 ) -> u32
     requires { ⌜ countOf (now registers) ≤ 64 ⌝ }
     requires { ⌜ countOf (now variables) < 2 ^ 15 ⌝ }
-    requires { ⌜ length (now first) < 2 ^ 32 ⌝ }
-    requires { ⌜ length (now second) < 2 ^ 32 ⌝ }
     requires { ⌜ every (countOf (now variables)) (variableShape (now variables)) ≡ true ⌝ }
-    requires { ⌜ Mapped (now variables) (countOf (now variables)) (now bits) (now held) (now pulled) (now bits1) (now held1) (now pulled1) ⌝ }
-    ensures stored { λ _. ⌜ now (variables .exit) ≡ withVariable (now (variables .entry)) variable (now (first .entry)) (now (second .entry)) read write ⌝ }
-    ensures judged { λ r. ⌜ r ≡ lowest (variableFault (now (registers .entry)) (now (variables .exit)) (countOf (now (variables .entry)))) (cond (badBehaviours (variable .rest .behaviours) read write) 13 0) ⌝ }
-    ensures mapped { λ r. ⌜ MappedUnless r (now (variables .exit)) (countOf (now (variables .entry)) + 1) (now (bits .exit)) (now (held .exit)) (now (pulled .exit)) (now (bits1 .exit)) (now (held1 .exit)) (now (pulled1 .exit)) ⌝ }
+    requires { ⌜ Mapped (now variables) (countOf (now variables)) (now reads) (now writes) ⌝ }
+    ensures stored { λ _. ⌜ now (variables .exit) ≡ withVariable (now (variables .entry)) variable (early .firsts) (early .seconds) (early .read) (early .write) ⌝ }
+    ensures judged { λ r. ⌜ r ≡ lowest (variableFault (now (registers .entry)) (now (variables .exit)) (countOf (now (variables .entry)))) (cond (badBehaviours (variable .rest .behaviours) (early .read) (early .write)) 13 0) ⌝ }
+    ensures mapped { λ r. ⌜ MappedUnless r (now (variables .exit)) (countOf (now (variables .entry)) + 1) (now (reads .exit)) (now (writes .exit)) ⌝ }
 {
     let v = word(variables, 0);
     let behaviours = variable.rest.behaviours;
-    store_variable(variables, variable, first, second, read, write);
+    let firsts = early.firsts;
+    let seconds = early.seconds;
+    let read = early.read;
+    let write = early.write;
+    store_variable(variables, variable, &firsts, &seconds, read, write);
     let number = late_number(
         registers,
         variables,
@@ -178,16 +169,11 @@ pub fn enter(
         behaviours,
         read,
         write,
-        bits,
-        held,
-        pulled,
-        bits1,
-        held1,
-        pulled1,
+        reads,
+        writes,
     );
     if number == 0 {
-        enter_part(bits, held, pulled, variables, v, 0);
-        enter_part(bits1, held1, pulled1, variables, v, 1);
+        enter_variable(reads, writes, variables, v);
     }
     number
 }
@@ -227,14 +213,7 @@ pub fn name_fault(
     or_else(declared, or_else(unknown, later))
 }
 
-// What breaks before there is an entry, and the list that gives each part.
-pub struct Early {
-    pub fault: Fault,
-    pub read: usize,
-    pub write: usize,
-}
-
-// Rules 6 and 7, then 11 by the pairing. The pieces of both lists are stored as the tables hold them.
+// Rules 6 and 7, then 11 by the pairing.
 pub fn early_of(
     text: &[u8],
     judging: Judging,
@@ -244,17 +223,13 @@ pub fn early_of(
     variable: Variable,
     first: &[usize],
     second: &[usize],
-    firsts: &mut [u32],
-    seconds: &mut [u32],
 ) -> Early
     requires { ⌜ variable .count ≤ 8 ⌝ }
     requires { ⌜ variable .rest .count ≤ 8 ⌝ }
-    requires { ⌜ now firsts ≡ replicate 24 0 ⌝ }
-    requires { ⌜ now seconds ≡ replicate 24 0 ⌝ }
-    ensures early { λ r. ⌜ r ≡ earlyOf (now (text .entry)) (stateOf judging (now (parameters .entry)) (now (registers .entry)) (now (variables .entry))) (readOf variable (now (first .entry)) (now (second .entry))) ⌝ }
-    ensures first { λ _. ⌜ now (firsts .exit) ≡ firstPieces (now (text .entry)) (stateOf judging (now (parameters .entry)) (now (registers .entry)) (now (variables .entry))) (readOf variable (now (first .entry)) (now (second .entry))) ⌝ }
-    ensures second { λ _. ⌜ now (seconds .exit) ≡ secondPieces (now (text .entry)) (stateOf judging (now (parameters .entry)) (now (registers .entry)) (now (variables .entry))) (readOf variable (now (first .entry)) (now (second .entry))) ⌝ }
+    ensures { λ r. ⌜ r ≡ earlyOf (now (text .entry)) (stateOf judging (now (parameters .entry)) (now (registers .entry)) (now (variables .entry))) (readOf variable (now (first .entry)) (now (second .entry))) ⌝ }
 {
+    let mut firsts = [0u32; 24];
+    let mut seconds = [0u32; 24];
     let names = name_fault(
         text,
         judging,
@@ -264,14 +239,20 @@ pub fn early_of(
         variable,
         first,
         second,
-        firsts,
-        seconds,
+        &mut firsts,
+        &mut seconds,
     );
-    let read = list_for(registers, variable, firsts, 0);
-    let write = list_for(registers, variable, firsts, 1);
+    let read = list_for(registers, variable, &firsts, 0);
+    let write = list_for(registers, variable, &firsts, 1);
     let unpaired = fault_if((read == 0) & (write == 0), 11, variable.place);
     let fault = or_else(names, unpaired);
-    Early { fault, read, write }
+    Early {
+        fault,
+        read,
+        write,
+        firsts,
+        seconds,
+    }
 }
 
 // Judges a variable against the tables so far. Its fault is named where a rule is broken; else the tables and the maps have it.
@@ -284,24 +265,18 @@ pub fn judge_variable(
     variable: Variable,
     first: &[usize],
     second: &[usize],
-    bits: &mut [u8],
-    held: &mut [u8],
-    pulled: &mut [u8],
-    bits1: &mut [u8],
-    held1: &mut [u8],
-    pulled1: &mut [u8],
+    reads: &mut [u8],
+    writes: &mut [u8],
 ) -> Judging
     requires { ⌜ countOf (now registers) ≤ 64 ⌝ }
     requires { ⌜ countOf (now variables) < 2 ^ 15 ⌝ }
     requires { ⌜ variable .count ≤ 8 ⌝ }
     requires { ⌜ variable .rest .count ≤ 8 ⌝ }
     requires { ⌜ every (countOf (now variables)) (variableShape (now variables)) ≡ true ⌝ }
-    requires { ⌜ Mapped (now variables) (countOf (now variables)) (now bits) (now held) (now pulled) (now bits1) (now held1) (now pulled1) ⌝ }
+    requires { ⌜ Mapped (now variables) (countOf (now variables)) (now reads) (now writes) ⌝ }
     ensures judged { λ r. ⌜ stateOf r (now (parameters .entry)) (now (registers .entry)) (now (variables .exit)) ≡ judgeVariable (now (text .entry)) (stateOf judging (now (parameters .entry)) (now (registers .entry)) (now (variables .entry))) (readOf variable (now (first .entry)) (now (second .entry))) ⌝ }
-    ensures mapped { λ r. ⌜ MappedUnless (r .fault .number) (now (variables .exit)) (countOf (now (variables .entry)) + 1) (now (bits .exit)) (now (held .exit)) (now (pulled .exit)) (now (bits1 .exit)) (now (held1 .exit)) (now (pulled1 .exit)) ⌝ }
+    ensures mapped { λ r. ⌜ MappedUnless (r .fault .number) (now (variables .exit)) (countOf (now (variables .entry)) + 1) (now (reads .exit)) (now (writes .exit)) ⌝ }
 {
-    let mut firsts = [0u32; 24];
-    let mut seconds = [0u32; 24];
     let early = early_of(
         text,
         judging,
@@ -311,28 +286,12 @@ pub fn judge_variable(
         variable,
         first,
         second,
-        &mut firsts,
-        &mut seconds,
     );
     let broken = early.fault;
     if broken.number != 0 {
         return with_fault(judging, broken);
     }
-    let number = enter(
-        variables,
-        registers,
-        variable,
-        &firsts,
-        &seconds,
-        early.read,
-        early.write,
-        bits,
-        held,
-        pulled,
-        bits1,
-        held1,
-        pulled1,
-    );
+    let number = enter(variables, registers, variable, early, reads, writes);
     let late = fault_if(!(number == 0), number, variable.place);
     with_fault(judging, late)
 }

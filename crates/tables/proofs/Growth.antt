@@ -2,28 +2,27 @@
 -- A loop appends entry n, has it judged (`parameter_fault`, `register_fault`, `variable_fault` answer 0), and goes on.
 use Prim.Native.Nat.{ℕ, zero, suc, _+_, _-_, _*_, _<_, _≤_}
 use native.Mathlib.Omega.{arith}
-use mathlib.Core.Path.{_≡_, refl, sym, ap, ap₂, _∙_, subst}
-use mathlib.Core.Bool.{Bool, true, false, _&&_, not, cond}
+use mathlib.Core.Path.{_≡_, refl, sym, ap, _∙_, subst}
+use mathlib.Core.Bool.{Bool, true, _&&_, cond}
 use mathlib.Core.Logic.{⊎-elim}
 use mathlib.Core.List.{List}
-use native.Mathlib.Nat.{not-suc-le-zero, le-of-suc-le-suc, eq-or-lt-of-le}
+use native.Mathlib.Nat.{eq-or-lt-of-le}
 use lib.Dec.{eqb, leb, ltb}
-use lib.ListN.{getD, length, replicate}
-use borrow.Author.Tests.{ltb-true, ltb-false, lt-ltb, not-false}
-use Rattle.tables.specs.Every.{every, firstOf, zeros}
-use Rattle.tables.specs.Marks.{distinct, mapBy, marks}
+use lib.ListN.{getD, length}
+use borrow.Author.Tests.{ltb-true, lt-ltb}
+use Rattle.tables.specs.Every.{every, zeros}
+use Rattle.tables.specs.Marks.{distinct}
 use Rattle.tables.specs.Tables.{countOf, partBits, pieceAt, pieceIn, registerAt, registerPart, registerPartIn, variableAt, variablePart, variablePartIn}
 use Rattle.tables.specs.Words.{pieceCount, pieceHigh, pieceLow, pieceRegister}
 use Rattle.tables.specs.Rules.{covered, mappedBefore, onDots, ownFault, parameterFault, parameterShape, partMaps, pieceFits, registerFault, registerShape, triggerShared, typeFits, variableFault, variableShape, volatileFits}
-use Rattle.tables.specs.Scan.{Before, Entered, coveredBy}
+use Rattle.tables.specs.Scan.{Before, Mapped}
 use Rattle.tables.specs.Sound.{parameterGood, registerGood, restZero, rulesKept, shapesFit, sound, tablesFit, variableGood}
-use Rattle.tables.proofs.Laws.{every-at, every-is, every-and, first-le}
+use Rattle.tables.proofs.Laws.{every-at, every-is, every-and, every-same}
 use Rattle.tables.proofs.ZeroLaws.{zeros-at, zeros-are}
 use Rattle.tables.proofs.BelowLaws.{own-maps}
-use Rattle.tables.proofs.MapLaws.{map-none, map-more}
-use Rattle.tables.proofs.ScanLaws.{uncovered-says}
+use Rattle.tables.proofs.MapLaws.{map-same}
 use Rattle.tables.proofs.SoundLaws.{fault-parts}
-use Rattle.tables.proofs.SameLaws.{Alike, parameter-same, register-same, variable-same, variable-shape-same, shape-few, part-bits-same, part-registers-same}
+use Rattle.tables.proofs.SameLaws.{Alike, parameter-same, register-same, variable-same, variable-shape-same, shape-few, part-enters-same, part-narrow-same}
 use Rattle.logic.proofs.Tests.{and-left, and-right}
 
 -- a table with one entry more, of `stride` words: the count is one higher, and only that entry's words are new
@@ -178,67 +177,25 @@ variable-added ps rs {a} {b} s added good =
       blank-variables = blank-added 59 7552 a b added (s .blank-variables);
     }
 
--- ---- the maps of rules 14 and 15, carried along
-pub before-none : (vs : List ℕ) (p : ℕ) → Before vs p 0 (replicate 2048 0) (replicate 64 0) (replicate 64 0)
-before-none vs p = record { bits-are = map-none 2048 _; held-are = map-none 64 _; pulled-are = map-none 64 _ }
-
-pub before-more : (vs : List ℕ) (p v : ℕ) {bits held pulled bits′ held′ pulled′ : List ℕ} → Before vs p v bits held pulled
-    → Entered vs p v bits held pulled bits′ held′ pulled′ → Before vs p (v + 1) bits′ held′ pulled′
-before-more vs p v m e =
-    record {
-      bits-are = map-more 2048 _ v (m .bits-are) (e .bits-entered);
-      held-are = map-more 64 _ v (m .held-are) (e .held-entered);
-      pulled-are = map-more 64 _ v (m .pulled-are) (e .pulled-entered);
-    }
-
-map-same : (size : ℕ) (f g : ℕ → List ℕ) (n : ℕ) → ((k : ℕ) → k < n → f k ≡ g k) → mapBy size f n ≡ mapBy size g n
-unfolding mapBy
-map-same size f g zero h = refl
-map-same size f g (suc n) h = ap₂ marks (map-same size f g n (λ k l. h k (omega arith))) (h n (omega arith))
-
--- the maps of the variables before entry n, when it is appended
-pub before-added : (rs a b : List ℕ) (p n : ℕ) {bits held pulled : List ℕ} → p < 2 → Alike (variableAt n) a b → every n (variableGood rs a) ≡ true
-    → Before a p n bits held pulled → Before b p n bits held pulled
-before-added rs a b p n h same all m =
-    record {
-      bits-are = m .bits-are ∙ map-same 2048 _ _ n (λ u l. part-bits-same a b u (near u l) u p (omega arith) h (few u l));
-      held-are = m .held-are ∙ map-same 64 _ _ n (λ u l. part-registers-same a b u (near u l) u p (omega arith) h (few u l));
-      pulled-are = m .pulled-are ∙ map-same 64 _ _ n (λ u l.
-          rw (same (variablePart u p + 1) (omega arith) (omega arith), part-registers-same a b u (near u l) u p (omega arith) h (few u l)));
-    }
+-- ---- the maps of the variables before entry n, when words behind them change
+pub mapped-same : (a b : List ℕ) (n : ℕ) {reads writes : List ℕ} → every n (variableShape a) ≡ true → Alike (variableAt n) a b
+    → Mapped a n reads writes → Mapped b n reads writes
+mapped-same a b n shapes same m = record { read = before-same 0 (omega arith) (m .read); write = before-same 1 (omega arith) (m .write) }
   where
     near : (u : ℕ) → u < n → Alike (variableAt (suc u)) a b
     near u l k g o = same k g (omega arith)
 
-    few : (u : ℕ) → u < n → pieceCount b (variablePart u p) ≤ 8
-    few u l = shape-few b u p h (shape-kept rs a b n same all u l)
+    few : (u p : ℕ) → p < 2 → u < n → pieceCount b (variablePart u p) ≤ 8
+    few u p h l = shape-few b u p h (sym (variable-shape-same a b u (near u l)) ∙ every-at n (variableShape a) shapes u l)
+
+    before-same : (p : ℕ) → p < 2 → {map : List ℕ} → Before a p n map → Before b p n map
+    before-same p h k =
+        record {
+          is = k .is ∙ map-same 2048 _ _ n (λ u l. part-enters-same a b u (near u l) u p (omega arith) h (few u p h l));
+          narrows = sym (every-same n _ _ (λ u l. part-narrow-same a b u (near u l) u p (omega arith) h (few u p h l))) ∙ k .narrows;
+        }
 
 -- ---- at the end
--- a search that found nothing
-first-all : (n : ℕ) (p : ℕ → Bool) → firstOf n p ≡ n → (k : ℕ) → k < n → p k ≡ false
-unfolding firstOf
-first-all zero p e k l = absurd (not-suc-le-zero l)
-first-all (suc n) p e k l = go (ltb (firstOf n p) n) refl (p n) refl e (λ h m. first-all n p h k m)
-  where
-    go : (b : Bool) → ltb (firstOf n p) n ≡ b → (c : Bool) → p n ≡ c → cond b (firstOf n p) (cond c n (suc n)) ≡ suc n
-        → (firstOf n p ≡ n → k < n → p k ≡ false) → p k ≡ false
-    go true h c g e rest = let below = ltb-true (firstOf n p) n h in absurd (omega arith)
-    go false h true g e rest = absurd (omega arith)
-    go false h false g e rest =
-        let here : firstOf n p ≡ n = omega (arith, first-le n p, ltb-false (firstOf n p) n h) in
-        ⊎-elim (λ (q : k ≡ n). ap p q ∙ g) (λ (m : k < n). rest here m) (eq-or-lt-of-le (le-of-suc-le-suc l))
-
--- `uncovered` answered the count of registers: rule 16 is kept
-pub covered-all : (rs vs : List ℕ) (n r : ℕ) {read held pulled write held′ pulled′ : List ℕ} → countOf rs ≤ 64
-    → Before vs 0 n read held pulled → Before vs 1 n write held′ pulled′
-    → r ≡ firstOf (countOf rs) (λ i. not (coveredBy rs read 0 i && coveredBy rs write 1 i)) → r ≡ countOf rs
-    → every (countOf rs) (λ i. covered rs vs n 0 i && covered rs vs n 1 i) ≡ true
-covered-all rs vs n r {read} {write = write} few m w is e =
-    let first : ℕ → List ℕ → List ℕ → ℕ = λ k x y. firstOf k (λ i. not (coveredBy rs x 0 i && coveredBy rs y 1 i)) in
-    let found : firstOf (countOf rs) (λ i. not (covered rs vs n 0 i && covered rs vs n 1 i)) ≡ countOf rs
-    = sym (uncovered-says rs vs n few) ∙ sym (ap₂ (first (countOf rs)) (m .bits-are) (w .bits-are)) ∙ sym is ∙ e in
-    every-is (countOf rs) _ (λ i l. not-false _ (first-all (countOf rs) _ found i l))
-
 -- what was built entry by entry, with counts in range and every dot mapped, is sound: the loader's "accepted" implies it
 pub so-far-sound : (ps rs vs : List ℕ) → tablesFit ps rs vs ≡ true → SoFar ps rs vs
     → every (countOf rs) (λ i. covered rs vs (countOf vs) 0 i && covered rs vs (countOf vs) 1 i) ≡ true → sound ps rs vs ≡ true

@@ -11,8 +11,9 @@ use borrow.Author.Tests.{leb-true}
 use Rattle.tables.specs.Every.{every, zeros}
 use Rattle.tables.specs.Marks.{distinct, joined, meets}
 use Rattle.tables.specs.Tables.{bitsOf, kindOf, mentionedBy, parameterAt, pieceAt, pieceBits, pieceIn, rangeAt, rangeCount, rangeIn, registerAt, registerPart, registerPartIn, variableAt, variablePart, variablePartIn, volatileOf, widthOf}
-use Rattle.tables.specs.Words.{pieceCount, pieceRegister, present, triggerOf}
+use Rattle.tables.specs.Words.{pieceCount, pieceHigh, pieceRegister, present, triggerOf}
 use Rattle.tables.specs.Rules.{mappedBefore, ownFault, parameterFault, parameterShape, partMaps, pieceFits, placeTaken, placed, rangeFits, rangesFit, registerFault, registerPartShape, registerShape, triggerShared, typeFits, variableFault, variablePartShape, variableShape, volatileFits, widthFits}
+use Rattle.tables.specs.Scan.{entersOf, narrow, pieceEnters}
 use Rattle.tables.specs.Sound.{parameterGood, registerGood, variableGood}
 use Rattle.tables.proofs.Laws.{every-same, some-same}
 use Rattle.tables.proofs.ZeroLaws.{zeros-every, zeros-at}
@@ -201,6 +202,17 @@ module _ (a b : List ℕ) (v : ℕ) (same : Alike (variableAt (suc v)) a b) wher
     part-registers-same =
         ap (λ (n : ℕ). joined (λ k. pieceRegister a (pieceAt at k) ∷ []) n) (own-word u p 2 l h (omega arith))
         ∙ joined-same _ _ (pieceCount b at) (λ n m. ap (λ (r : ℕ). r ∷ []) (piece-register u p n l h (omega arith)))
+
+    pub part-enters-same : entersOf a p u ≡ entersOf b p u
+    part-enters-same =
+        ap₂ (λ (t n : ℕ). joined (λ k. pieceEnters (cond (eqb t 1) 2 1) (pieceIn a (pieceAt at k))) n) (own-word u p 1 l h (omega arith)) (own-word u p 2 l h (omega arith))
+        ∙ joined-same _ _ (pieceCount b at) (λ n m.
+        rw (piece-register u p n l h (omega arith), piece-word u p n 1 l h (omega arith) (omega arith), piece-word u p n 2 l h (omega arith) (omega arith)))
+
+    pub part-narrow-same : narrow (variablePartIn a at) ≡ narrow (variablePartIn b at)
+    part-narrow-same =
+        ap (λ (n : ℕ). every n (λ k. leb (pieceHigh a (pieceAt at k)) 7)) (own-word u p 2 l h (omega arith))
+        ∙ every-same (pieceCount b at) _ _ (λ n m. ap (λ (w : ℕ). leb w 7) (piece-word u p n 1 l h (omega arith) (omega arith)))
 
     part-maps-same : (rs : List ℕ) → partMaps rs p (variablePartIn a at) ≡ partMaps rs p (variablePartIn b at)
     unfolding partMaps pieceFits

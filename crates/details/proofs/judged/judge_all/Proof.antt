@@ -18,20 +18,8 @@ slice-aggregate-declarations-of c = search needs
 slice-aggregate-declarations-of-2 : tie.Need-slice-aggregate-declarations-of-2
 slice-aggregate-declarations-of-2 c = search needs
 
-slice-aggregate-declarations-of-3 : tie.Need-slice-aggregate-declarations-of-3
-slice-aggregate-declarations-of-3 c = search needs
-
-slice-aggregate-declarations-of-4 : tie.Need-slice-aggregate-declarations-of-4
-slice-aggregate-declarations-of-4 c = search needs
-
-slice-aggregate-declarations-of-5 : tie.Need-slice-aggregate-declarations-of-5
-slice-aggregate-declarations-of-5 c = search needs
-
-slice-aggregate-declarations-of-6 : tie.Need-slice-aggregate-declarations-of-6
-slice-aggregate-declarations-of-6 c = search needs
-
 declarations-of-requires : tie.Need-declarations-of-requires
-declarations-of-requires c κs = ready-start _ _ _ _ (blank-is _ _ _ (c .before .before .before .before .before .before .before .before .before .before .before .before .before .before .before .before .before .before .before .before .pre)) _ _ (c .before .before .before .before .before .before .before .before .before .before .before .before .before .before .before .at-start .ensures) (c .before .before .before .before .before .before .before .before .before .before .before .parameters-of .ensures)
+declarations-of-requires c κs = ready-start _ _ _ _ (blank-is _ _ _ (c .before .before .before .before .before .before .before .before .before .before .before .before .before .before .before .before .pre)) _ _ (c .before .before .before .before .before .before .before .before .before .before .before .at-start .ensures) (c .before .before .before .before .before .before .before .parameters-of .ensures)
 
 same-length : tie.Need-same-length
 same-length c = search needs
@@ -43,7 +31,7 @@ same-length-3 : tie.Need-same-length-3
 same-length-3 c = search needs
 
 returns : tie.Need-returns
-returns c = state-judged _ _ _ _ _ (text-judged _ _ _ _ (blank-is _ _ _ (c .before .before .before .before .before .before .before .before .before .before .before .before .before .before .before .before .before .before .before .before .before .before .before .before .before .before .before .before .before .before .before .before .pre)) _ _ (c .before .before .before .before .before .before .before .before .before .before .before .before .before .before .before .before .before .before .before .before .before .before .before .before .before .before .before .at-start .ensures) (c .before .before .before .before .before .before .before .before .before .before .before .before .before .before .before .before .before .before .before .before .before .before .before .parameters-of .ensures) _ _ _ (c .before .before .before .before .before .before .before .before .before .before .before .declarations-of .ensures .0) refl)
+returns c = state-judged _ _ _ _ _ (text-judged _ _ _ _ (blank-is _ _ _ (c .before .before .before .before .before .before .before .before .before .before .before .before .before .before .before .before .before .before .before .before .before .before .before .before .pre)) _ _ (c .before .before .before .before .before .before .before .before .before .before .before .before .before .before .before .before .before .before .before .at-start .ensures) (c .before .before .before .before .before .before .before .before .before .before .before .before .before .before .before .parameters-of .ensures) _ _ _ (c .before .before .before .before .before .before .before .declarations-of .ensures .0) refl)
 
 pub judge-all-spec : {M : Type 1} → statement M
 judge-all-spec =
@@ -53,10 +41,6 @@ judge-all-spec =
     parameters-of-requires
     slice-aggregate-declarations-of
     slice-aggregate-declarations-of-2
-    slice-aggregate-declarations-of-3
-    slice-aggregate-declarations-of-4
-    slice-aggregate-declarations-of-5
-    slice-aggregate-declarations-of-6
     declarations-of-requires
     same-length
     same-length-2

@@ -21,10 +21,10 @@ same-length-2 c = search needs
 
 returns : tie.Need-returns
 unfolding declarationWith progressOf
-returns c = (rw (declarationWith, ← c .before .before .before .before .before .before .before .look .ensures, eq-eqb _ _ (c .before .before .before .before .before .if1 .taken)) (c .before .before .register-next .ensures), rw (c .before .before .register-next .ensures) (ready-register _ _ (c .before .before .before .before .before .before .before .before .before .before .before .before .before .before .before .before .before .before .pre)))
+returns c = (rw (declarationWith, ← c .before .before .before .before .before .before .before .look .ensures, eq-eqb _ _ (c .before .before .before .before .before .if1 .taken)) (c .before .before .register-next .ensures), rw (c .before .before .register-next .ensures) (ready-register _ _ (c .before .before .before .before .before .before .before .before .before .before .before .before .before .before .pre)))
 
 variable-next-requires : tie.Need-variable-next-requires
-variable-next-requires c κs = c .before .before .before .before .before .before .before .before .before .before .before .before .before .before .before .before .before .before .before .before .before .pre
+variable-next-requires c κs = c .before .before .before .before .before .before .before .before .before .before .before .before .before .pre
 
 same-length-3 : tie.Need-same-length-3
 same-length-3 c = search needs
@@ -38,21 +38,9 @@ same-length-5 c = search needs
 same-length-6 : tie.Need-same-length-6
 same-length-6 c = search needs
 
-same-length-7 : tie.Need-same-length-7
-same-length-7 c = search needs
-
-same-length-8 : tie.Need-same-length-8
-same-length-8 c = search needs
-
-same-length-9 : tie.Need-same-length-9
-same-length-9 c = search needs
-
-same-length-10 : tie.Need-same-length-10
-same-length-10 c = search needs
-
 returns-2 : tie.Need-returns-2
 unfolding declarationWith progressOf
-returns-2 c = (rw (declarationWith, ← c .before .before .before .before .before .before .before .before .before .before .before .before .before .before .before .before .before .before .before .before .before .before .before .before .before .look .ensures, ne-eqb _ _ (c .before .before .before .before .before .before .before .before .before .before .before .before .before .before .before .before .before .before .before .before .before .before .before .if1 .left)) (c .before .before .before .before .before .before .before .before .before .before .before .before .before .before .variable-next .ensures .0), c .before .before .before .before .before .before .before .before .before .before .before .before .before .before .variable-next .ensures .1)
+returns-2 c = (rw (declarationWith, ← c .before .before .before .before .before .before .before .before .before .before .before .before .before .look .ensures, ne-eqb _ _ (c .before .before .before .before .before .before .before .before .before .before .before .if1 .left)) (c .before .before .before .before .before .before .variable-next .ensures .0), c .before .before .before .before .before .before .variable-next .ensures .1)
 
 pub declaration-next-spec : {M : Type 1} → statement M
 declaration-next-spec =
@@ -68,8 +56,4 @@ declaration-next-spec =
     same-length-4
     same-length-5
     same-length-6
-    same-length-7
-    same-length-8
-    same-length-9
-    same-length-10
     returns-2)

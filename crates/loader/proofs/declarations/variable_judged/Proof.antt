@@ -15,8 +15,8 @@ returns c = (rw (sym (c .before .is-fault .ensures) ∙ c .if1 .taken), λ z. ab
 
 judge-variable-requires : tie.Need-judge-variable-requires
 judge-variable-requires c κs =
-    let r = c .before .before .before .before .before .before .before .before .before .before .before .before .before .before .before .before .before .before .before .before .before .before .pre in
-    let z = no-number _ (sym (c .before .before .before .before .before .before .before .before .is-fault .ensures) ∙ c .before .before .before .before .before .before .before .if1 .left) in
+    let r = c .before .before .before .before .before .before .before .before .before .before .before .before .before .before .pre in
+    let z = no-number _ (sym (c .before .before .before .before .is-fault .ensures) ∙ c .before .before .before .if1 .left) in
     (r .0, (r .1 .0, (r .1 .1 .0, (r .1 .1 .1 .0, (r .1 .1 .1 .1 .0 z, r .1 .1 .1 .1 .1 z)))))
 
 same-length : tie.Need-same-length
@@ -28,21 +28,9 @@ same-length-2 c = search needs
 same-length-3 : tie.Need-same-length-3
 same-length-3 c = search needs
 
-same-length-4 : tie.Need-same-length-4
-same-length-4 c = search needs
-
-same-length-5 : tie.Need-same-length-5
-same-length-5 c = search needs
-
-same-length-6 : tie.Need-same-length-6
-same-length-6 c = search needs
-
-same-length-7 : tie.Need-same-length-7
-same-length-7 c = search needs
-
 returns-2 : tie.Need-returns-2
 unfolding unlessStopped stateOf
-returns-2 c = (rw (sym (c .before .before .before .before .before .before .before .before .before .before .before .before .before .before .before .before .before .before .before .before .before .before .before .is-fault .ensures) ∙ c .before .before .before .before .before .before .before .before .before .before .before .before .before .before .before .before .before .before .before .before .before .before .if1 .left) (c .before .before .before .before .before .before .before .before .before .before .before .before .before .before .judge-variable .ensures .0), c .before .before .before .before .before .before .before .before .before .before .before .before .before .before .judge-variable .ensures .1)
+returns-2 c = (rw (sym (c .before .before .before .before .before .before .before .before .before .before .before .is-fault .ensures) ∙ c .before .before .before .before .before .before .before .before .before .before .if1 .left) (c .before .before .before .before .before .before .judge-variable .ensures .0), c .before .before .before .before .before .before .judge-variable .ensures .1)
 
 pub variable-judged-spec : {M : Type 1} → statement M
 variable-judged-spec =
@@ -54,8 +42,4 @@ variable-judged-spec =
     same-length
     same-length-2
     same-length-3
-    same-length-4
-    same-length-5
-    same-length-6
-    same-length-7
     returns-2)

@@ -22,7 +22,7 @@ moved-requires c κs = search needs
 
 returns : tie.Need-returns
 unfolding variableWith progressOf
-returns c = (moved-to _ _ _ _ _ (c .moved .ensures) ∙ rw (le-leb _ _ (c .before .before .if1 .taken), c .before .extra-after .ensures), ready-still [] _ _ _ _ _ (c .moved .ensures) (c .before .before .before .before .before .before .before .before .before .before .before .before .before .before .pre))
+returns c = (moved-to _ _ _ _ _ (c .moved .ensures) ∙ rw (le-leb _ _ (c .before .before .if1 .taken), c .before .extra-after .ensures), ready-still [] _ _ _ _ _ (c .moved .ensures) (c .before .before .before .before .before .before .before .before .before .before .pre))
 
 slice-aggregate-variable-after : tie.Need-slice-aggregate-variable-after
 slice-aggregate-variable-after c = search needs
@@ -46,7 +46,7 @@ moved-requires-2 : tie.Need-moved-requires-2
 moved-requires-2 c κs = search needs
 
 returns-2 : tie.Need-returns-2
-returns-2 c = (variable-stops _ _ _ _ _ (lt-leb _ _ (c .before .before .before .before .before .before .before .before .before .if1 .left)) (c .before .before .before .before .before .before .variable-after .ensures .0) (c .before .before .before .fixed-after .ensures) (c .before .enum-told2 .given .1) (c .moved2 .ensures), ready-still [] _ _ _ _ _ (c .moved2 .ensures) (c .before .before .before .before .before .before .before .before .before .before .before .before .before .before .before .before .before .before .before .before .before .pre))
+returns-2 c = (variable-stops _ _ _ _ _ (lt-leb _ _ (c .before .before .before .before .before .before .before .before .before .if1 .left)) (c .before .before .before .before .before .before .variable-after .ensures .0) (c .before .before .before .fixed-after .ensures) (c .before .enum-told2 .given .1) (c .moved2 .ensures), ready-still [] _ _ _ _ _ (c .moved2 .ensures) (c .before .before .before .before .before .before .before .before .before .before .before .before .before .before .before .before .before .pre))
 
 slice-aggregate-variable-judged : tie.Need-slice-aggregate-variable-judged
 slice-aggregate-variable-judged c = search needs
@@ -56,10 +56,10 @@ slice-aggregate-variable-judged-2 c = search needs
 
 variable-judged-requires : tie.Need-variable-judged-requires
 unfolding progressOf stateOf
-variable-judged-requires c κs = judged-asks _ (c .before .before .before .before .before .before .before .before .before .before .before .before .before .before .before .before .before .before .before .before .before .before .before .before .before .before .before .before .before .before .pre) _ (lt-leb _ _ (c .before .before .before .before .before .before .before .before .before .before .before .before .before .before .before .before .before .before .if1 .left)) (subst WellRead (sym (c .before .before .before .before .before .before .before .before .before .before .before .before .before .before .before .variable-after .ensures .0)) (well-read _ _ _ _))
+variable-judged-requires c κs = judged-asks _ (c .before .before .before .before .before .before .before .before .before .before .before .before .before .before .before .before .before .before .before .before .before .before .pre) _ (lt-leb _ _ (c .before .before .before .before .before .before .before .before .before .before .before .before .before .before .if1 .left)) (subst WellRead (sym (c .before .before .before .before .before .before .before .before .before .before .before .variable-after .ensures .0)) (well-read _ _ _ _))
 
 with-variable-requires : tie.Need-with-variable-requires
-with-variable-requires c κs = omega (arith, c .before .before .before .before .before .before .before .before .before .before .before .before .before .before .before .before .before .before .before .before .before .before .before .before .before .before .before .before .before .before .before .before .before .if1 .left)
+with-variable-requires c κs = omega (arith, c .before .before .before .before .before .before .before .before .before .before .before .before .before .before .before .before .before .before .before .before .before .if1 .left)
 
 same-length : tie.Need-same-length
 same-length c = search needs
@@ -70,27 +70,15 @@ same-length-2 c = search needs
 same-length-3 : tie.Need-same-length-3
 same-length-3 c = search needs
 
-same-length-4 : tie.Need-same-length-4
-same-length-4 c = search needs
-
-same-length-5 : tie.Need-same-length-5
-same-length-5 c = search needs
-
-same-length-6 : tie.Need-same-length-6
-same-length-6 c = search needs
-
-same-length-7 : tie.Need-same-length-7
-same-length-7 c = search needs
-
 returns-3 : tie.Need-returns-3
 returns-3 c =
-    let e = c .before .before .before .before .before .before .before .before .before .before .before .before .before .before .before .before .before .before .before .before .before .before .before .before .before .before .before .before .before .before .before .variable-after .ensures in
-    let l = lt-leb _ _ (c .before .before .before .before .before .before .before .before .before .before .before .before .before .before .before .before .before .before .before .before .before .before .before .before .before .before .before .before .before .before .before .before .before .before .if1 .left) in
-    let f = c .before .before .before .before .before .before .before .before .before .before .before .before .before .before .before .before .before .before .before .before .before .before .before .before .before .before .before .before .fixed-after .ensures in
-    let g = c .before .before .before .before .before .before .before .before .before .before .before .before .before .before .before .before .before .before .before .before .before .before .before .before .before .before .enum-told .given .1 in
-    let j = c .before .before .before .before .before .before .before .before .before .before .before .before .before .before .before .variable-judged .ensures in (
+    let e = c .before .before .before .before .before .before .before .before .before .before .before .before .before .before .before .before .before .before .before .variable-after .ensures in
+    let l = lt-leb _ _ (c .before .before .before .before .before .before .before .before .before .before .before .before .before .before .before .before .before .before .before .before .before .before .if1 .left) in
+    let f = c .before .before .before .before .before .before .before .before .before .before .before .before .before .before .before .before .fixed-after .ensures in
+    let g = c .before .before .before .before .before .before .before .before .before .before .before .before .before .before .enum-told .given .1 in
+    let j = c .before .before .before .before .before .before .before .variable-judged .ensures in (
       variable-goes _ _ _ _ _ l (e .0) f _ _ (e .1 .0) (e .1 .1) g (j .0) (c .with-variable .ensures),
-      variable-ready _ _ _ _ _ l (e .0) f _ _ (e .1 .0) (e .1 .1) g (j .0) (c .with-variable .ensures) (c .before .before .before .before .before .before .before .before .before .before .before .before .before .before .before .before .before .before .before .before .before .before .before .before .before .before .before .before .before .before .before .before .before .before .before .before .before .before .before .before .before .before .before .before .before .before .pre) (j .1),
+      variable-ready _ _ _ _ _ l (e .0) f _ _ (e .1 .0) (e .1 .1) g (j .0) (c .with-variable .ensures) (c .before .before .before .before .before .before .before .before .before .before .before .before .before .before .before .before .before .before .before .before .before .before .before .before .before .before .before .before .before .before .pre) (j .1),
     )
 
 pub variable-next-spec : {M : Type 1} → statement M
@@ -115,8 +103,4 @@ variable-next-spec =
     same-length
     same-length-2
     same-length-3
-    same-length-4
-    same-length-5
-    same-length-6
-    same-length-7
     returns-3)

@@ -16,20 +16,8 @@ slice-aggregate-declarations-of c = search needs
 slice-aggregate-declarations-of-2 : tie.Need-slice-aggregate-declarations-of-2
 slice-aggregate-declarations-of-2 c = search needs
 
-slice-aggregate-declarations-of-3 : tie.Need-slice-aggregate-declarations-of-3
-slice-aggregate-declarations-of-3 c = search needs
-
-slice-aggregate-declarations-of-4 : tie.Need-slice-aggregate-declarations-of-4
-slice-aggregate-declarations-of-4 c = search needs
-
-slice-aggregate-declarations-of-5 : tie.Need-slice-aggregate-declarations-of-5
-slice-aggregate-declarations-of-5 c = search needs
-
-slice-aggregate-declarations-of-6 : tie.Need-slice-aggregate-declarations-of-6
-slice-aggregate-declarations-of-6 c = search needs
-
 declarations-of-requires : tie.Need-declarations-of-requires
-declarations-of-requires c κs = ready-start _ _ _ _ (blank-is _ _ _ (c .before .before .before .before .before .before .before .before .before .before .before .before .before .before .before .before .before .before .before .before .pre)) _ _ (c .before .before .before .before .before .before .before .before .before .before .before .before .before .before .before .at-start .ensures) (c .before .before .before .before .before .before .before .before .before .before .before .parameters-of .ensures)
+declarations-of-requires c κs = ready-start _ _ _ _ (blank-is _ _ _ (c .before .before .before .before .before .before .before .before .before .before .before .before .before .before .before .before .pre)) _ _ (c .before .before .before .before .before .before .before .before .before .before .before .at-start .ensures) (c .before .before .before .before .before .before .before .parameters-of .ensures)
 
 fixed-after-requires : tie.Need-fixed-after-requires
 fixed-after-requires c κs = search needs
@@ -50,7 +38,7 @@ once-read-requires : tie.Need-once-read-requires
 once-read-requires c κs = search needs
 
 same-length : tie.Need-same-length
-same-length c = c .before .before .before .before .before .before .before .before .before .before .before .before .before .before .before .before .before .before .before .before .before .before .before .before .before .before .before .before .before .before .before .before .before .before .parameters-of .kept .1 .1 .0
+same-length c = c .before .before .before .before .before .before .before .before .before .before .before .before .before .before .before .before .before .before .before .before .before .before .before .before .before .before .parameters-of .kept .1 .1 .0
 
 same-length-2 : tie.Need-same-length-2
 same-length-2 c = search needs
@@ -60,8 +48,8 @@ same-length-3 c = search needs
 
 returns : tie.Need-returns
 returns c =
-    let w = text-judged _ _ _ _ (blank-is _ _ _ (c .before .before .before .before .before .before .before .before .before .before .before .before .before .before .before .before .before .before .before .before .before .before .before .before .before .before .before .before .before .before .before .before .before .before .before .before .before .before .before .before .before .before .before .pre)) _ _ (c .before .before .before .before .before .before .before .before .before .before .before .before .before .before .before .before .before .before .before .before .before .before .before .before .before .before .before .before .before .before .before .before .before .before .before .before .before .before .at-start .ensures) (c .before .before .before .before .before .before .before .before .before .before .before .before .before .before .before .before .before .before .before .before .before .before .before .before .before .before .before .before .before .before .before .before .before .before .parameters-of .ensures) _ _ _ (c .before .before .before .before .before .before .before .before .before .before .before .before .before .before .before .before .before .before .before .before .before .before .declarations-of .ensures .0) (c .before .before .before .before .before .before .before .before .before .before .before .fixed-after .ensures) in
-    (verdict-is _ _ _ _ _ _ w (c .before .before .before .before .before .before .before .before .before .before .before .before .before .before .before .before .before .before .before .before .before .before .declarations-of .ensures .1) (c .before .before .before .before .before .uncovered .ensures) (c .before .judged-as .ensures) (c .once-read .ensures), tables-left _ _ _ _ _ _ w)
+    let w = text-judged _ _ _ _ (blank-is _ _ _ (c .before .before .before .before .before .before .before .before .before .before .before .before .before .before .before .before .before .before .before .before .before .before .before .before .before .before .before .before .before .before .before .before .before .before .before .pre)) _ _ (c .before .before .before .before .before .before .before .before .before .before .before .before .before .before .before .before .before .before .before .before .before .before .before .before .before .before .before .before .before .before .at-start .ensures) (c .before .before .before .before .before .before .before .before .before .before .before .before .before .before .before .before .before .before .before .before .before .before .before .before .before .before .parameters-of .ensures) _ _ _ (c .before .before .before .before .before .before .before .before .before .before .before .before .before .before .before .before .before .before .declarations-of .ensures .0) (c .before .before .before .before .before .before .before .before .before .before .before .fixed-after .ensures) in
+    (verdict-is _ _ _ _ _ _ w (c .before .before .before .before .before .before .before .before .before .before .before .before .before .before .before .before .before .before .declarations-of .ensures .1) (c .before .before .before .before .before .uncovered .ensures) (c .before .judged-as .ensures) (c .once-read .ensures), tables-left _ _ _ _ _ _ w)
 
 pub judge-text-spec : {M : Type 1} → statement M
 judge-text-spec =
@@ -71,10 +59,6 @@ judge-text-spec =
     parameters-of-requires
     slice-aggregate-declarations-of
     slice-aggregate-declarations-of-2
-    slice-aggregate-declarations-of-3
-    slice-aggregate-declarations-of-4
-    slice-aggregate-declarations-of-5
-    slice-aggregate-declarations-of-6
     declarations-of-requires
     fixed-after-requires
     slice-aggregate-uncovered

@@ -4,9 +4,7 @@ use Rattle.rules.proofs.variable.late_number.Statement.{statement}
 use Rattle.rules.proofs.variable.late_number.Tie as tie
 
 variable-fault-requires : tie.Need-variable-fault-requires
-variable-fault-requires c κs =
-    let m = c .before .before .before .before .before .before .before .before .pre .1 .1 in
-    (search needs, (search needs, (m .read, m .write)))
+variable-fault-requires c κs = search needs
 
 bad-behaviours-requires : tie.Need-bad-behaviours-requires
 bad-behaviours-requires c κs = search needs

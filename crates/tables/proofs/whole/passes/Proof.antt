@@ -34,12 +34,6 @@ enum-told-5 c = search needs
 register-fault-requires : tie.Need-register-fault-requires
 register-fault-requires c κs = search needs
 
-enum-told-6 : tie.Need-enum-told-6
-enum-told-6 c = search needs
-
-own-fault-requires : tie.Need-own-fault-requires
-own-fault-requires c κs = search needs
-
 returns : tie.Need-returns
 unfolding passesTest
 returns c = rw (c .before .enum-told .given .1) (c .parameter-shape .ensures)
@@ -60,10 +54,6 @@ returns-5 : tie.Need-returns-5
 unfolding passesTest
 returns-5 c = rw (c .before .enum-told5 .given .1, c .register-fault .ensures)
 
-returns-6 : tie.Need-returns-6
-unfolding passesTest
-returns-6 c = rw (c .before .enum-told6 .given .1, c .own-fault .ensures)
-
 pub passes-spec : {M : Type 1} → statement M
 passes-spec =
     tie.close
@@ -78,11 +68,8 @@ passes-spec =
     parameter-fault-requires
     enum-told-5
     register-fault-requires
-    enum-told-6
-    own-fault-requires
     returns
     returns-2
     returns-3
     returns-4
-    returns-5
-    returns-6)
+    returns-5)
