@@ -11,8 +11,7 @@ use Rattle.token.specs.declared.Scanned.{Scanned}
 use Rattle.token.specs.Scan.{scanAt}
 use Rattle.token.specs.Fair.{placeOf}
 use Rattle.token.specs.Kind.{kindOf}
-use Rattle.syntax.specs.Reader.{fixedAfter}
-use Rattle.syntax.specs.Text.{Progress, movedTo, begins}
+use Rattle.syntax.specs.Text.{Progress, begins}
 use Rattle.rules.specs.State.{State, stateOf}
 use Rattle.loader.specs.declared.heading.Loading.{Loading}
 use Rattle.loader.specs.Judge.{progressOf}
@@ -44,9 +43,8 @@ unfolding lineStart
 start-none text {p} l = let q : 0 ≡ p = omega arith in ap (lineStart text) q
 
 -- the whole text was read and judged
-pub state-judged : (text : List ℕ) (all : Loading) (ps rs vs : List ℕ) → movedTo (progressOf all ps rs vs) (fixedAfter text 255 (all .step)) ≡ judged text
-    → stateOf (all .judging) ps rs vs ≡ judged text .made
-unfolding progressOf movedTo
+pub state-judged : (text : List ℕ) (all : Loading) (ps rs vs : List ℕ) → progressOf all ps rs vs ≡ judged text → stateOf (all .judging) ps rs vs ≡ judged text .made
+unfolding progressOf
 state-judged text all ps rs vs w = ap (λ (p : Progress State). p .made) w
 
 pub one-at-most : (b : Bool) → cond b 1 0 ≤ 1

@@ -2,9 +2,7 @@
 ghost use mathlib.Core.Path.{_≡_};
 ghost use Rattle.loader.specs.Load.{lentAs, tablesOf, beginning, judged};
 ghost use Rattle.rules.specs.State.{stateOf};
-use loader::declarations::declarations_of;
-use loader::heading::parameters_of;
-use loader::whole::at_start;
+use loader::whole::judge_text;
 use rules::Judging;
 
 // Reads and judges a text, into tables of zeros: the device's name and the first rule broken.
@@ -19,11 +17,8 @@ pub fn judge_all(
 {
     let mut reads = [0u8; 2048];
     let mut writes = [0u8; 2048];
-    let start = at_start();
-    let headed = parameters_of(text, start, parameters, registers, variables);
-    let all = declarations_of(
+    let all = judge_text(
         text,
-        headed,
         parameters,
         registers,
         variables,

@@ -25,9 +25,10 @@ use Rattle.rules.specs.Fault.{isFault}
 use Rattle.rules.specs.State.{State, stateOf}
 use Rattle.loader.specs.declared.heading.Loading.{Loading}
 use Rattle.loader.specs.declared.whole.Verdict.{Verdict}
-use Rattle.loader.specs.Judge.{judge, progressOf, atStart}
+use Rattle.loader.specs.Judge.{judge, progressOf, atStart, movedBy}
 use Rattle.loader.specs.Ready.{Ready}
 use Rattle.loader.specs.Load.{lentAs, tablesOf, Sized, beginning, judged, judgedAs, firstUncovered, onceRead, verdictOf, isAccepted, leftBy, isShort, isLong, loaded, laidOver, loadOf}
+use Rattle.loader.proofs.LoadSteps.{moved-to}
 use Rattle.loader.proofs.CountLaws.{None, none-parameters}
 use Rattle.rules.proofs.FaultLaws.{no-number}
 
@@ -81,16 +82,16 @@ module _ (text : List ℕ) (ps rs vs : List ℕ) (blank : Blank ps rs vs) where
     counted-none : None (progressOf headed qs rs vs)
     counted-none = subst None (sym from-start) (none-parameters text first (refl, refl))
 
-    pub ready-start : Ready (progressOf headed qs rs vs) (replicate 2048 0) (replicate 2048 0)
+    pub ready-start : {reads writes : List ℕ} → reads ≡ replicate 2048 0 → writes ≡ replicate 2048 0 → Ready (progressOf headed qs rs vs) reads writes
     unfolding progressOf stateOf
-    ready-start = ready-at (progressOf headed qs rs vs) counted-none (blank .registers) (blank .variables)
+    ready-start r w = rw (r, w) (ready-at (progressOf headed qs rs vs) counted-none (blank .registers) (blank .variables))
 
     -- the whole text
-    pub text-judged : (all : Loading) (rs₂ vs₂ : List ℕ) {end : Step} → progressOf all qs rs₂ vs₂ ≡ declarationsWith (judge text) text (progressOf headed qs rs vs)
-        → end ≡ fixedAfter text 255 (all .step) → movedTo (progressOf all qs rs₂ vs₂) end ≡ judged text
+    pub text-judged : (all : Loading) (rs₂ vs₂ : List ℕ) {end : Step} {r : Loading} → progressOf all qs rs₂ vs₂ ≡ declarationsWith (judge text) text (progressOf headed qs rs vs)
+        → end ≡ fixedAfter text 255 (all .step) → r ≡ movedBy all end → progressOf r qs rs₂ vs₂ ≡ judged text
     unfolding judged progressOf
-    text-judged all rs₂ vs₂ d e =
-        ap (movedTo (progressOf all qs rs₂ vs₂)) e
+    text-judged all rs₂ vs₂ d e m =
+        moved-to all _ qs rs₂ vs₂ m ∙ ap (movedTo (progressOf all qs rs₂ vs₂)) e
         ∙ ap (λ (q : Progress State). movedTo q (fixedAfter text 255 (q .step))) (d ∙ ap (declarationsWith (judge text) text) from-start)
         ∙ reading-is text
 
@@ -112,18 +113,17 @@ uncovered-is p ready e z =
     e ∙ rw (m .read .is, m .write .is) (uncovered-says (p .made .registers) (p .made .variables) (countOf (p .made .variables)) (omega (arith, ready .registers-counted, ready .registers-few)))
 
 -- the verdict, over what the calls answered
-pub verdict-is : (text : List ℕ) (all : Loading) (ps rs vs : List ℕ) (end : Step) {first : ℕ} {rules answer : Verdict} {reads writes : List ℕ}
-    → movedTo (progressOf all ps rs vs) end ≡ judged text → Ready (progressOf all ps rs vs) reads writes
-    → first ≡ firstOf (countOf rs) (λ i. not (coveredBy rs reads 0 i && coveredBy rs writes 1 i))
-    → rules ≡ judgedAs (all .judging .fault) first ps rs vs → answer ≡ onceRead end rules → answer ≡ verdictOf (judged text)
-unfolding verdictOf progressOf stateOf movedTo
-verdict-is text all ps rs vs end w ready u j a =
-    a ∙ ap (onceRead end) (j ∙ judged-same (all .judging .fault) _ _ ps rs vs (uncovered-is (progressOf all ps rs vs) ready u)) ∙ ap verdictOf w
+module _ (text : List ℕ) (all : Loading) (ps rs vs : List ℕ) (read : progressOf all ps rs vs ≡ judged text) where
+  pub verdict-is : {first : ℕ} {rules answer : Verdict} {reads writes : List ℕ} → Ready (progressOf all ps rs vs) reads writes
+      → first ≡ firstOf (countOf rs) (λ i. not (coveredBy rs reads 0 i && coveredBy rs writes 1 i))
+      → rules ≡ judgedAs (all .judging .fault) first ps rs vs → answer ≡ onceRead (all .step) rules → answer ≡ verdictOf (judged text)
+  unfolding verdictOf progressOf stateOf
+  verdict-is ready u j a =
+      a ∙ ap (onceRead (all .step)) (j ∙ judged-same (all .judging .fault) _ _ ps rs vs (uncovered-is (progressOf all ps rs vs) ready u)) ∙ ap verdictOf read
 
-pub tables-left : (text : List ℕ) (all : Loading) (ps rs vs : List ℕ) (end : Step) → movedTo (progressOf all ps rs vs) end ≡ judged text
-    → lentAs ps rs vs ≡ tablesOf (judged text .made)
-unfolding progressOf stateOf movedTo tablesOf
-tables-left text all ps rs vs end w = ap (λ (p : Progress State). tablesOf (p .made)) w
+  pub tables-left : lentAs ps rs vs ≡ tablesOf (judged text .made)
+  unfolding progressOf stateOf tablesOf
+  tables-left = ap (λ (p : Progress State). tablesOf (p .made)) read
 
 -- tables of their stated sizes, cleared
 pub cleared-blank : (ps rs vs : List ℕ) {p r v : List ℕ} → Sized ps rs vs → p ≡ replicate (length ps) 0 → r ≡ replicate (length rs) 0 → v ≡ replicate (length vs) 0

@@ -1,6 +1,7 @@
 // Loading: the answer, and what it leaves in the lent tables.
 use crate::declarations::declarations_of;
 use crate::heading::Loading;
+use crate::heading::moved;
 use crate::heading::parameters_of;
 use rules::Fault;
 use rules::Judging;
@@ -10,7 +11,9 @@ use syntax::Step;
 use tables::scan::uncovered;
 use tables::words::word;
 ghost use mathlib.Core.Path.{_≡_};
-ghost use Rattle.loader.specs.Judge.{atStart};
+ghost use lib.ListN.{replicate};
+ghost use Rattle.loader.specs.Judge.{atStart, progressOf};
+ghost use Rattle.loader.specs.Ready.{Ready};
 ghost use Rattle.loader.specs.Load.{lentAs, tablesOf, beginning, Sized, judgedAs, onceRead, verdictOf, isAccepted, judged, leftBy, loaded, loadOf};
 
 const END: u16 = 255;
@@ -65,7 +68,7 @@ fn once_read(step: Step, verdict: Verdict) -> Verdict
 }
 
 // Nothing is read yet, and no rule is broken.
-pub fn at_start() -> Loading
+fn at_start() -> Loading
     ensures { λ r. ⌜ r ≡ atStart ⌝ }
 {
     Loading {
@@ -84,8 +87,39 @@ pub fn at_start() -> Loading
     }
 }
 
-// Reads and judges a text, into tables of their stated sizes that are all zero.
-fn judge_text(
+// Reads and judges a text, into tables of their stated sizes and maps of its variables that are all zero.
+pub fn judge_text(
+    text: &[u8],
+    parameters: &mut [u32],
+    registers: &mut [u32],
+    variables: &mut [u32],
+    reads: &mut [u8],
+    writes: &mut [u8],
+) -> Loading
+    requires { ⌜ lentAs (now parameters) (now registers) (now variables) ≡ tablesOf beginning ⌝ }
+    requires { ⌜ now reads ≡ replicate 2048 0 ⌝ }
+    requires { ⌜ now writes ≡ replicate 2048 0 ⌝ }
+    ensures read { λ r. ⌜ progressOf r (now (parameters .exit)) (now (registers .exit)) (now (variables .exit)) ≡ judged (now (text .entry)) ⌝ }
+    ensures ready { λ r. ⌜ Ready (progressOf r (now (parameters .exit)) (now (registers .exit)) (now (variables .exit))) (now (reads .exit)) (now (writes .exit)) ⌝ }
+{
+    let start = at_start();
+    let headed = parameters_of(text, start, parameters, registers, variables);
+    let all = declarations_of(
+        text,
+        headed,
+        parameters,
+        registers,
+        variables,
+        reads,
+        writes,
+    );
+    let after = all.step;
+    let end = syntax::fixed_after(text, END, after);
+    moved(all, end)
+}
+
+// The verdict on a text, where the tables are of their stated sizes and all zero.
+fn verdict_on(
     text: &[u8],
     parameters: &mut [u32],
     registers: &mut [u32],
@@ -97,19 +131,15 @@ fn judge_text(
 {
     let mut reads = [0u8; 2048];
     let mut writes = [0u8; 2048];
-    let start = at_start();
-    let headed = parameters_of(text, start, parameters, registers, variables);
-    let all = declarations_of(
+    let all = judge_text(
         text,
-        headed,
         parameters,
         registers,
         variables,
         &mut reads,
         &mut writes,
     );
-    let after = all.step;
-    let end = syntax::fixed_after(text, END, after);
+    let end = all.step;
     let judging = all.judging;
     let fault = judging.fault;
     let first = uncovered(registers, &reads, &writes);
@@ -133,7 +163,7 @@ fn load_into(
     clear(parameters);
     clear(registers);
     clear(variables);
-    let verdict = judge_text(text, parameters, registers, variables);
+    let verdict = verdict_on(text, parameters, registers, variables);
     if is_accepted(verdict) {
         return verdict;
     }

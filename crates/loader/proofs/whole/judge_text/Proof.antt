@@ -1,5 +1,7 @@
 -- `loader::whole::judge_text` meets its contract.
-use Rattle.loader.proofs.LoadLaws.{blank-is, ready-start, text-judged, verdict-is, tables-left}
+use mathlib.Core.List.{[]}
+use Rattle.loader.proofs.LoadLaws.{blank-is, ready-start, text-judged}
+use Rattle.loader.proofs.NextSteps.{ready-still}
 use borrow.Author.Needs.{needs}
 use Rattle.loader.proofs.whole.judge_text.Statement.{statement}
 use Rattle.loader.proofs.whole.judge_text.Tie as tie
@@ -10,35 +12,17 @@ at-start-requires c κs = search needs
 parameters-of-requires : tie.Need-parameters-of-requires
 parameters-of-requires c κs = search needs
 
-slice-aggregate-declarations-of : tie.Need-slice-aggregate-declarations-of
-slice-aggregate-declarations-of c = search needs
-
-slice-aggregate-declarations-of-2 : tie.Need-slice-aggregate-declarations-of-2
-slice-aggregate-declarations-of-2 c = search needs
-
 declarations-of-requires : tie.Need-declarations-of-requires
-declarations-of-requires c κs = ready-start _ _ _ _ (blank-is _ _ _ (c .before .before .before .before .before .before .before .before .before .before .before .before .before .before .before .before .pre)) _ _ (c .before .before .before .before .before .before .before .before .before .before .before .at-start .ensures) (c .before .before .before .before .before .before .before .parameters-of .ensures)
+declarations-of-requires c κs = ready-start _ _ _ _ (blank-is _ _ _ (c .before .before .before .before .before .before .before .before .before .before .before .before .before .before .before .before .before .before .pre .0)) _ _ (c .before .before .before .before .before .before .before .before .before .before .before .at-start .ensures) (c .before .before .before .before .before .before .before .parameters-of .ensures) (c .before .before .before .before .before .before .before .before .before .before .before .before .before .before .before .before .before .before .pre .1 .0) (c .before .before .before .before .before .before .before .before .before .before .before .before .before .before .before .before .before .before .pre .1 .1)
 
 fixed-after-requires : tie.Need-fixed-after-requires
 fixed-after-requires c κs = search needs
 
-slice-aggregate-uncovered : tie.Need-slice-aggregate-uncovered
-slice-aggregate-uncovered c = search needs
-
-slice-aggregate-uncovered-2 : tie.Need-slice-aggregate-uncovered-2
-slice-aggregate-uncovered-2 c = search needs
-
-uncovered-requires : tie.Need-uncovered-requires
-uncovered-requires c κs = search needs
-
-judged-as-requires : tie.Need-judged-as-requires
-judged-as-requires c κs = search needs
-
-once-read-requires : tie.Need-once-read-requires
-once-read-requires c κs = search needs
+moved-requires : tie.Need-moved-requires
+moved-requires c κs = search needs
 
 same-length : tie.Need-same-length
-same-length c = c .before .before .before .before .before .before .before .before .before .before .before .before .before .before .before .before .before .before .before .before .before .before .before .before .before .before .parameters-of .kept .1 .1 .0
+same-length c = search needs
 
 same-length-2 : tie.Need-same-length-2
 same-length-2 c = search needs
@@ -46,10 +30,14 @@ same-length-2 c = search needs
 same-length-3 : tie.Need-same-length-3
 same-length-3 c = search needs
 
+same-length-4 : tie.Need-same-length-4
+same-length-4 c = search needs
+
+same-length-5 : tie.Need-same-length-5
+same-length-5 c = search needs
+
 returns : tie.Need-returns
-returns c =
-    let w = text-judged _ _ _ _ (blank-is _ _ _ (c .before .before .before .before .before .before .before .before .before .before .before .before .before .before .before .before .before .before .before .before .before .before .before .before .before .before .before .before .before .before .before .before .before .before .before .pre)) _ _ (c .before .before .before .before .before .before .before .before .before .before .before .before .before .before .before .before .before .before .before .before .before .before .before .before .before .before .before .before .before .before .at-start .ensures) (c .before .before .before .before .before .before .before .before .before .before .before .before .before .before .before .before .before .before .before .before .before .before .before .before .before .before .parameters-of .ensures) _ _ _ (c .before .before .before .before .before .before .before .before .before .before .before .before .before .before .before .before .before .before .declarations-of .ensures .0) (c .before .before .before .before .before .before .before .before .before .before .before .fixed-after .ensures) in
-    (verdict-is _ _ _ _ _ _ w (c .before .before .before .before .before .before .before .before .before .before .before .before .before .before .before .before .before .before .declarations-of .ensures .1) (c .before .before .before .before .before .uncovered .ensures) (c .before .judged-as .ensures) (c .once-read .ensures), tables-left _ _ _ _ _ _ w)
+returns c = (text-judged _ _ _ _ (blank-is _ _ _ (c .before .before .before .before .before .before .before .before .before .before .before .before .before .before .before .before .before .before .before .before .before .before .before .before .before .before .before .before .before .pre .0)) _ _ (c .before .before .before .before .before .before .before .before .before .before .before .before .before .before .before .before .before .before .before .before .before .before .at-start .ensures) (c .before .before .before .before .before .before .before .before .before .before .before .before .before .before .before .before .before .before .parameters-of .ensures) _ _ _ (c .before .before .before .before .before .before .before .before .before .before .declarations-of .ensures .0) (c .before .fixed-after .ensures) (c .moved .ensures), ready-still [] _ _ _ _ _ (c .moved .ensures) (c .before .before .before .before .before .before .before .before .before .before .declarations-of .ensures .1))
 
 pub judge-text-spec : {M : Type 1} → statement M
 judge-text-spec =
@@ -57,16 +45,12 @@ judge-text-spec =
     (tie.spec
     at-start-requires
     parameters-of-requires
-    slice-aggregate-declarations-of
-    slice-aggregate-declarations-of-2
     declarations-of-requires
     fixed-after-requires
-    slice-aggregate-uncovered
-    slice-aggregate-uncovered-2
-    uncovered-requires
-    judged-as-requires
-    once-read-requires
+    moved-requires
     same-length
     same-length-2
     same-length-3
+    same-length-4
+    same-length-5
     returns)
