@@ -3,7 +3,7 @@
 use Prim.Native.Nat.{ℕ, zero, suc, _+_, _-_, _*_, _<_, _≤_, _^_}
 use native.Mathlib.Omega.{arith}
 use mathlib.Core.Path.{_≡_, refl, sym, ap, ap₂, _∙_}
-use mathlib.Core.Bool.{Bool, true, false, cond, _&&_, _||_, or-assoc, or-false}
+use mathlib.Core.Bool.{Bool, true, false, cond, _&&_, _||_, or-false}
 use mathlib.Core.List.{List, [], _∷_, _++_}
 use lib.Dec.{eqb, leb, ltb}
 use lib.ListN.{getD, length, length-append}
@@ -13,10 +13,11 @@ use Rattle.tables.specs.Marks.{downFrom, has, joined}
 use Rattle.tables.specs.declared.Piece.{Piece}
 use Rattle.tables.specs.Tables.{pieceIn, pieceBits}
 use Rattle.tables.proofs.Laws.{first-none}
+use Rattle.tables.proofs.DistinctLaws.{has-append}
+use Rattle.tables.proofs.MarkLaws.{joined-more, piece-run, length-down}
 use Rattle.details.specs.declared.search.Test.{Test}
 use Rattle.details.specs.Holders.{behind, Few}
 use Rattle.details.specs.Search.{passes}
-use Rattle.tables.proofs.MarkLaws.{joined-more, piece-run, length-down}
 
 -- a run of numbers has those between its ends
 run-none : (x from : ℕ) → false ≡ (leb from x && ltb x (from + 0))
@@ -114,11 +115,6 @@ pub piece-made : (vs : List ℕ) (at : ℕ) {r h l : ℕ} → r ≡ getD vs at 0
 piece-made vs at er eh el = rw (er, eh, el)
 
 -- a loop over lists that are joined: its start, and a turn
-has-append : (x : ℕ) (xs ys : List ℕ) → has x (xs ++ ys) ≡ (has x xs || has x ys)
-unfolding has
-has-append x [] ys = refl
-has-append x (y ∷ xs) ys = ap (λ (b : Bool). eqb x y || b) (has-append x xs ys) ∙ sym (or-assoc (eqb x y) (has x xs) (has x ys))
-
 pub has-start : (x : ℕ) (f : ℕ → List ℕ) → false ≡ has x (joined f 0)
 unfolding has joined
 has-start x f = refl
