@@ -1,5 +1,5 @@
 -- Where a frame lies in its input. Assumes nothing.
-use Prim.Native.Nat.{ℕ, _+_, _≤_, _<_}
+use Prim.Native.Nat.{ℕ, _+_, _-_, _≤_, _<_}
 use mathlib.Core.Bool.{Bool, true, false, cond, _&&_}
 use mathlib.Core.List.{List}
 use mathlib.Core.Path.{_≡_, refl, sym, ap, subst, _∙_}
@@ -53,6 +53,12 @@ pub text-within :
     (input : List ℕ) (at : ℕ) (found : Frame) {start end next : ℕ} → found ≡ frameAt input at → found ≡ Text start end next
     → (start ≤ end) × (end ≤ length input) × (at < next) × (at < length input)
 text-within input at found e is = subst (Within input at) (sym e ∙ is) (frame-within input at)
+
+-- less of the input is to come behind it
+pub text-nearer :
+    (input : List ℕ) (at : ℕ) (found : Frame) {start end next : ℕ} → found ≡ frameAt input at → found ≡ Text start end next
+    → length input - next < length input - at
+text-nearer input at found e is = let h = text-within input at found e is in omega (arith, h .2, h .3)
 
 -- the text, or that there is none, as the code's tests find it
 module _ (input : List ℕ) (start n : ℕ) where

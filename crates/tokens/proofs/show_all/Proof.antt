@@ -3,7 +3,7 @@ use native.Mathlib.Omega.{arith}
 use borrow.Author.Needs.{needs}
 use Prim.Native.Nat.{_≤_, _-_}
 use lib.ListN.{length}
-use Rattle.frames.proofs.FrameLaws.{text-within}
+use Rattle.frames.proofs.FrameLaws.{text-within, text-nearer}
 use Rattle.tokens.proofs.show_all.Statement.{statement}
 use Rattle.tokens.proofs.show_all.Tie as tie
 
@@ -35,7 +35,7 @@ show-text-requires : tie.Need-show-text-requires Inv-loop μ-loop
 show-text-requires c κs = search needs
 
 loop-less : tie.Need-loop-less Inv-loop μ-loop
-loop-less c = let h = text-within _ _ _ (c .before .before .before .before .before .frame-at .ensures) (c .before .before .before .frame .given .1) in omega (arith, h .2, h .3)
+loop-less c = text-nearer _ _ _ (c .before .before .before .before .before .frame-at .ensures) (c .before .before .before .frame .given .1)
 
 loop-again : tie.Need-loop-again Inv-loop μ-loop
 loop-again c = omega arith
