@@ -115,9 +115,9 @@ pub piece-made : (vs : List ℕ) (at : ℕ) {r h l : ℕ} → r ≡ getD vs at 0
 piece-made vs at er eh el = rw (er, eh, el)
 
 -- a loop over lists that are joined: its start, and a turn
-pub has-start : (x : ℕ) (f : ℕ → List ℕ) → false ≡ has x (joined f 0)
-unfolding has joined
-has-start x f = refl
+pub joined-start : {A : Type 0} (g : List ℕ → A) (f : ℕ → List ℕ) → g [] ≡ g (joined f 0)
+unfolding joined
+joined-start g f = refl
 
 pub has-more : (x : ℕ) (f : ℕ → List ℕ) (n : ℕ) {found b : Bool} → found ≡ has x (joined f n) → b ≡ has x (f n) → (found || b) ≡ has x (joined f (n + 1))
 has-more x f n h e = ap₂ _||_ h e ∙ sym (ap (has x) (joined-more f n) ∙ has-append x (joined f n) (f n))
@@ -134,10 +134,6 @@ behind-append x (y ∷ xs) ys = go (behind-append x xs ys) (eqb x y)
         → cond b (length (xs ++ ys)) (behind x (xs ++ ys)) ≡ cond (b || has x xs) (cond b (length xs) (behind x xs) + length ys) (behind x ys)
     go h true = length-append xs ys
     go h false = h
-
-pub behind-start : (x : ℕ) (f : ℕ → List ℕ) → 0 ≡ behind x (joined f 0)
-unfolding behind joined
-behind-start x f = refl
 
 pub behind-more :
     (x : ℕ) (f : ℕ → List ℕ) (n : ℕ) {found : Bool} {weight size own next : ℕ} → found ≡ has x (joined f n) → weight ≡ behind x (joined f n)

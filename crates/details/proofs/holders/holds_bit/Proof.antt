@@ -7,7 +7,7 @@ use lib.ListN.{getD}
 use Rattle.tables.specs.Marks.{has}
 use Rattle.tables.specs.Tables.{bitsTo, variablePartIn}
 use Rattle.tables.proofs.MarkLaws.{at-count}
-use Rattle.details.proofs.HolderLaws.{has-start, has-more}
+use Rattle.details.proofs.HolderLaws.{joined-start, has-more}
 use Rattle.details.proofs.holders.holds_bit.Statement.{statement}
 use Rattle.details.proofs.holders.holds_bit.Tie as tie
 
@@ -27,7 +27,8 @@ word-requires : tie.Need-word-requires Inv-loop μ-loop
 word-requires c κs = search needs
 
 loop-holds : tie.Need-loop-holds Inv-loop μ-loop
-loop-holds c = (omega arith, has-start _ _)
+unfolding has
+loop-holds c = (omega arith, joined-start (has _) _)
 
 add-piece-holds : tie.Need-add-piece-holds Inv-loop μ-loop
 add-piece-holds c = search needs

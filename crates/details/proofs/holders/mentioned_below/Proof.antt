@@ -4,9 +4,10 @@ use Prim.Native.Nat.{_-_, _≤_}
 use native.Mathlib.Omega.{arith}
 use mathlib.Core.Path.{_≡_, refl, ap}
 use Rattle.tables.specs.declared.Piece.{Piece}
+use Rattle.tables.specs.Marks.{has}
 use Rattle.tables.proofs.MarkLaws.{at-count}
 use Rattle.details.specs.Holders.{mentionedBelow}
-use Rattle.details.proofs.HolderLaws.{has-start, has-more, has-single}
+use Rattle.details.proofs.HolderLaws.{joined-start, has-more, has-single}
 use Rattle.details.proofs.holders.mentioned_below.Statement.{statement}
 use Rattle.details.proofs.holders.mentioned_below.Tie as tie
 
@@ -17,7 +18,8 @@ abbrev μ-loop : tie.MeasureT-loop
 μ-loop variables part register v k found₀ j₀ found j = k - j
 
 loop-holds : tie.Need-loop-holds Inv-loop μ-loop
-loop-holds c = (omega arith, has-start _ _)
+unfolding has
+loop-holds c = (omega arith, joined-start (has _) _)
 
 piece-of-requires : tie.Need-piece-of-requires Inv-loop μ-loop
 piece-of-requires c κs = search needs

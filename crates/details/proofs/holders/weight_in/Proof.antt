@@ -8,7 +8,7 @@ use Rattle.tables.specs.Marks.{has}
 use Rattle.tables.specs.Tables.{bitsTo, variablePartIn}
 use Rattle.tables.proofs.MarkLaws.{at-count}
 use Rattle.details.specs.Holders.{behind}
-use Rattle.details.proofs.HolderLaws.{has-start, has-more, behind-start, behind-more, own-few, chosen-few}
+use Rattle.details.proofs.HolderLaws.{joined-start, has-more, behind-more, own-few, chosen-few}
 use Rattle.details.proofs.holders.weight_in.Statement.{statement}
 use Rattle.details.proofs.holders.weight_in.Tie as tie
 
@@ -28,7 +28,8 @@ word-requires : tie.Need-word-requires Inv-loop μ-loop
 word-requires c κs = search needs
 
 loop-holds : tie.Need-loop-holds Inv-loop μ-loop
-loop-holds c = (omega arith, omega arith, has-start _ _, behind-start _ _)
+unfolding has behind
+loop-holds c = (omega arith, omega arith, joined-start (has _) _, joined-start (behind _) _)
 
 add-piece : tie.Need-add-piece Inv-loop μ-loop
 add-piece c = search needs
