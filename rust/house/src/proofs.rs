@@ -44,10 +44,23 @@ pub fn argued(name: &str, text: &str) -> Argument {
 fn clause(line: &str) -> Option<&str> {
     let head = line.chars().next()?;
     let (name, argument) = line.split_once(" = ")?;
-    let found = ["search needs", "refl", "omega arith"].contains(&argument.trim());
     let other = ["use ", "pub ", "--"].iter().any(|s| line.starts_with(s));
     let last = name.ends_with("-spec");
-    (!head.is_whitespace() && !found && !other && !last).then_some(line)
+    (!head.is_whitespace() && !other && !last && !is_found(argument.trim())).then_some(line)
+}
+
+/// What the checker finds by itself, or by the one fact that a branch tells.
+fn is_found(argument: &str) -> bool {
+    let told = argument
+        .strip_prefix("rw (")
+        .and_then(|a| a.strip_suffix(')'));
+    ["search needs", "refl", "omega arith"].contains(&argument) || told.is_some_and(is_fact)
+}
+
+/// A fact that is known at a place, as `c .if1 .taken`.
+fn is_fact(argument: &str) -> bool {
+    let mut words = argument.split(' ');
+    words.next() == Some("c") && words.all(|w| w.starts_with('.') && !w.contains(['(', ')', ',']))
 }
 
 /// The groups of arguments of one shape, those of at least so many lines.
@@ -82,5 +95,10 @@ mod tests {
     fn needs_that_the_checker_finds_are_not_argued() {
         let text = "use a.{b}\n\nadd : tie.Need-add\nadd c = search needs\n\nreturns : tie.Need-returns\nreturns c = law (c .is)\n";
         assert_eq!(argued("f", text).lines, 1);
+        assert_eq!(argued("f", "returns c = rw (c .if1 .taken)\n").lines, 0);
+        assert_eq!(
+            argued("f", "returns c = rw (law (c .if1 .taken))\n").lines,
+            1
+        );
     }
 }
