@@ -30,37 +30,73 @@ pub fn laws(text: &str) -> Vec<Argument> {
         .collect()
 }
 
-/// What a function's proof argues: its clauses, but for those that the checker finds by itself.
+/// What a function's proof argues itself: its clauses, but for those that the checker finds, that hold by facts at hand, or that cite a law on such facts.
 pub fn argued(name: &str, text: &str) -> Argument {
-    let clauses: Vec<String> = text.lines().filter_map(clause).map(shape).collect();
+    let own = clauses(text).into_iter().filter(|c| argues(c));
+    let own: Vec<String> = own.map(|c| shape(&c)).collect();
     Argument {
         name: name.to_string(),
-        lines: clauses.len(),
-        shape: clauses.join("\n"),
+        lines: own.len(),
+        shape: own.join("\n"),
     }
 }
 
-/// The line, if it is a clause `name arguments = argument` and argues something.
-fn clause(line: &str) -> Option<&str> {
-    let head = line.chars().next()?;
-    let (name, argument) = line.split_once(" = ")?;
-    let other = ["use ", "pub ", "--"].iter().any(|s| line.starts_with(s));
-    let last = name.ends_with("-spec");
-    (!head.is_whitespace() && !other && !last && !is_found(argument.trim())).then_some(line)
+/// The clauses `need facts = argument` of a function's proof, each on a line; not its invariants, which are statements, nor the last line, which lists the needs.
+fn clauses(text: &str) -> Vec<String> {
+    let mut found: Vec<String> = Vec::new();
+    let mut open = false;
+    for line in text.lines() {
+        if line.starts_with([' ', ')']) && open {
+            let last = found.last_mut().unwrap();
+            last.push(' ');
+            last.push_str(line.trim());
+        } else {
+            open = is_clause(line);
+            if open {
+                found.push(line.to_string());
+            }
+        }
+    }
+    found
 }
 
-/// What the checker finds by itself, or by the one fact that a branch tells.
-fn is_found(argument: &str) -> bool {
-    let told = argument
+fn is_clause(line: &str) -> bool {
+    let other = ["use ", "pub ", "abbrev ", "--", "Inv-", "μ-"];
+    let stated = line.contains(" : ") && !line.contains(" = ");
+    let blank = line.trim().is_empty() || line.starts_with(' ');
+    let listed = line.split(' ').next().unwrap().ends_with("-spec");
+    !blank
+        && !stated
+        && !listed
+        && line.contains(" =")
+        && !other.iter().any(|s| line.starts_with(s))
+}
+
+/// A clause that argues turns, joins or takes apart what it knows.
+fn argues(clause: &str) -> bool {
+    let argument = clause.split_once(" =").unwrap().1.trim();
+    let joins = ["∙", "λ"].iter().any(|s| argument.contains(s));
+    let turns = ["rw", "simp", "sym", "ap", "ap₂", "subst", "let", "record"];
+    let words = argument.split(|c: char| c.is_whitespace() || "(),".contains(c));
+    let turned = words.into_iter().any(|w| turns.contains(&w));
+    (joins || turned) && !holds_by_facts(argument)
+}
+
+/// `rw (c .if1 .taken, ← c .word .ensures)`: the definition at what the branch and the calls tell.
+fn holds_by_facts(argument: &str) -> bool {
+    let facts = argument
         .strip_prefix("rw (")
         .and_then(|a| a.strip_suffix(')'));
-    ["search needs", "refl", "omega arith"].contains(&argument) || told.is_some_and(is_fact)
+    facts.is_some_and(|f| f.split(", ").all(is_fact))
 }
 
-/// A fact that is known at a place, as `c .if1 .taken`.
+/// A fact that is known at a place, as `c .if1 .taken`, or a definition's name.
 fn is_fact(argument: &str) -> bool {
-    let mut words = argument.split(' ');
-    words.next() == Some("c") && words.all(|w| w.starts_with('.') && !w.contains(['(', ')', ',']))
+    let plain = argument.trim_start_matches("← ");
+    let mut words = plain.split(' ');
+    let first = words.next().unwrap();
+    let name = first.chars().all(|c| c.is_alphanumeric());
+    name && words.all(|w| w.starts_with('.') && !w.contains(['(', ')']))
 }
 
 /// The groups of arguments of one shape, those of at least so many lines.
@@ -92,13 +128,19 @@ mod tests {
     }
 
     #[test]
-    fn needs_that_the_checker_finds_are_not_argued() {
-        let text = "use a.{b}\n\nadd : tie.Need-add\nadd c = search needs\n\nreturns : tie.Need-returns\nreturns c = law (c .is)\n";
-        assert_eq!(argued("f", text).lines, 1);
-        assert_eq!(argued("f", "returns c = rw (c .if1 .taken)\n").lines, 0);
+    fn what_is_found_or_cited_is_not_argued() {
+        let lines = |clause: &str| argued("f", clause).lines;
+        assert_eq!(lines("add : tie.Need-add\nadd c = search needs\n"), 0);
+        assert_eq!(lines("Inv-loop i n = (i ≤ n) × (f ≡ g)\n"), 0);
         assert_eq!(
-            argued("f", "returns c = rw (law (c .if1 .taken))\n").lines,
-            1
+            lines("returns c = rw (c .if1 .taken, ← c .word .ensures)\n"),
+            0
         );
+        assert_eq!(
+            lines("again c = law _ _ (c .loop .inv) (omega (arith, c .if1 .taken))\n"),
+            0
+        );
+        assert_eq!(lines("returns c = rw (law (c .if1 .taken))\n"), 1);
+        assert_eq!(lines("returns c =\n    c .loop .inv ∙ law _\n"), 1);
     }
 }

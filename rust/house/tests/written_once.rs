@@ -5,7 +5,7 @@ use house::tree::{below, File};
 
 /// A law of so many lines or more is written once. Shorter ones are a head and two lines, one for each case.
 const LEAST_LAW: usize = 4;
-/// So are a function's clauses, where it argues in so many or more.
+/// So is what a function's proof argues itself, where that is so many clauses or more.
 const LEAST_CLAUSES: usize = 2;
 
 fn is_function(file: &File) -> bool {
