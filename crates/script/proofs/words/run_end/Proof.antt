@@ -1,11 +1,11 @@
 -- `script::words::run_end` meets its contract. Assumes nothing.
 use borrow.Author.Needs.{needs}
-use mathlib.Core.Path.{_≡_, refl, sym, _∙_}
+use mathlib.Core.Path.{_≡_, refl}
 use Prim.Native.Nat.{_-_}
 use lib.ListN.{length}
 use Rattle.token.specs.Bytes.{runAt}
 use Rattle.script.specs.Words.{testOf}
-use Rattle.token.proofs.RunSteps.{run-ends, run-goes-on, run-stops}
+use Rattle.token.proofs.RunSteps.{run-on, run-stopped, run-over}
 use Rattle.script.proofs.words.run_end.Statement.{statement}
 use Rattle.script.proofs.words.run_end.Tie as tie
 
@@ -31,13 +31,13 @@ loop-less : tie.Need-loop-less Inv-loop μ-loop
 loop-less c = search needs
 
 loop-again : tie.Need-loop-again Inv-loop μ-loop
-loop-again c = c .before .before .before .before .loop .inv ∙ run-goes-on _ _ _ (c .before .before .before .loop-test .taken) (sym (c .before .passes .ensures) ∙ c .if1 .taken)
+loop-again c = run-on _ _ _ (c .before .before .before .before .loop .inv) (c .before .before .before .loop-test .taken) (c .before .passes .ensures) (c .if1 .taken)
 
 returns : tie.Need-returns Inv-loop μ-loop
-returns c = sym (c .before .before .before .before .loop .inv ∙ run-stops _ _ _ (c .before .before .before .loop-test .taken) (sym (c .before .passes .ensures) ∙ c .if1 .left))
+returns c = run-stopped _ _ _ (c .before .before .before .before .loop .inv) (c .before .before .before .loop-test .taken) (c .before .passes .ensures) (c .if1 .left)
 
 returns-2 : tie.Need-returns-2 Inv-loop μ-loop
-returns-2 c = sym (c .before .loop .inv ∙ run-ends _ _ _ (c .loop-test .left))
+returns-2 c = run-over _ _ _ (c .before .loop .inv) (c .loop-test .left)
 
 pub run-end-spec : {M : Type 1} → statement M
 run-end-spec =
