@@ -1,14 +1,15 @@
 -- The lists that are stored in a table, over what the calls of their readers answered.
 -- Assumes nothing.
 use Prim.Native.Nat.{ℕ, _-_, _≤_, _<_}
-use mathlib.Core.Path.{_≡_, ap, _∙_}
+use mathlib.Core.Path.{_≡_, refl, ap, _∙_}
 use mathlib.Core.List.{List}
 use lib.ListN.{length}
+use borrow.Author.Tests.{le-leb, lt-leb}
 use Rattle.syntax.specs.declared.reader.Step.{Step}
 use Rattle.syntax.specs.declared.reader.Seen.{Seen}
 use Rattle.syntax.specs.declared.reader.Listed.{Listed}
-use Rattle.syntax.specs.Reader.{seenAt, fixedAfter}
-use Rattle.syntax.specs.Items.{Filed, closedBy, itemTurn, moreItems, itemsAfter}
+use Rattle.syntax.specs.Reader.{seenAt, fixedAfter, extraAfter}
+use Rattle.syntax.specs.Items.{Filed, unlessFull, closedBy, itemTurn, moreItems, itemsAfter}
 use Rattle.syntax.proofs.LoopSteps.{sign-full, sign-end, sign-on}
 
 -- a list and its table, apart
@@ -42,6 +43,18 @@ module _ (text : List ℕ) (item : ℕ → List ℕ → Step → Filed) (kind : 
       → (all ≡ itemsAfter text item kind count table from .listed) × (last ≡ itemsAfter text item kind count table from .table)
   unfolding itemsAfter
   items-are count table from a b c d = (c ∙ rw (a, b), d ∙ rw (a, b))
+
+-- one more item, where there are as many as there may be, and where there is room for it
+module _ (text : List ℕ) (most kind count : ℕ) (table : List ℕ) (from : Step) (more : Filed) where
+  pub full-is : most ≤ count → {extra : Step} → extra ≡ extraAfter text kind from
+      → (record { count = count; step = extra } ≡ unlessFull text most kind count table from more .listed) × (table ≡ unlessFull text most kind count table from more .table)
+  unfolding unlessFull
+  full-is full e = rw (le-leb _ _ full, e) (refl, refl)
+
+  pub room-is : count < most → {one : Listed} {next : List ℕ} → one ≡ more .listed → next ≡ more .table
+      → (one ≡ unlessFull text most kind count table from more .listed) × (next ≡ unlessFull text most kind count table from more .table)
+  unfolding unlessFull
+  room-is room a b = rw (lt-leb _ _ room) (a, b)
 
 -- the sign after a list
 pub closed-are : (text : List ℕ) (kind : ℕ) (f : Filed) {all : Listed} {last : List ℕ} {close : Step} → (all ≡ f .listed) × (last ≡ f .table) → close ≡ fixedAfter text kind (all .step)

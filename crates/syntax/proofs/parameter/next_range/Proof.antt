@@ -1,17 +1,16 @@
-use mathlib.Core.Path.{refl}
+use mathlib.Core.Path.{_∙_}
 use Rattle.syntax.specs.Parameter.{nextRange}
-use Rattle.syntax.specs.Items.{unlessFull}
-use borrow.Author.Tests.{le-leb, lt-leb}
 use borrow.Author.Needs.{needs}
 use Rattle.syntax.proofs.parameter.next_range.Statement.{statement}
 use Rattle.syntax.proofs.parameter.next_range.Tie as tie
+use Rattle.syntax.proofs.ItemSteps.{full-is, room-is}
 
 extra-after-requires : tie.Need-extra-after-requires
 extra-after-requires c κs = search needs
 
 returns : tie.Need-returns
-unfolding nextRange unlessFull
-returns c = rw (nextRange, unlessFull, le-leb _ _ (c .before .if1 .taken), ← c .extra-after .ensures) (refl, refl)
+unfolding nextRange
+returns c = full-is _ _ _ _ _ _ _ (c .before .if1 .taken) (c .extra-after .ensures)
 
 range-after-requires : tie.Need-range-after-requires
 range-after-requires c κs = search needs
@@ -26,8 +25,8 @@ same-length : tie.Need-same-length
 same-length c = search needs
 
 returns-2 : tie.Need-returns-2
-unfolding nextRange unlessFull
-returns-2 c = rw (nextRange, unlessFull, lt-leb _ _ (c .before .before .before .before .before .if1 .left), ← c .before .before .before .before .range-after .ensures) (refl, c .before .before .store-range .ensures)
+unfolding nextRange
+returns-2 c = room-is _ _ _ _ _ _ _ (c .before .before .before .before .before .if1 .left) (rw (c .before .before .before .before .range-after .ensures)) (c .before .before .store-range .ensures ∙ rw (c .before .before .before .before .range-after .ensures))
 
 pub next-range-spec : {M : Type 1} → statement M
 next-range-spec =
