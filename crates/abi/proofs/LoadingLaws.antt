@@ -2,7 +2,7 @@
 -- Assumes nothing.
 use Prim.Native.Nat.{ℕ, _<_, _^_}
 use mathlib.Core.Path.{_≡_, _∙_, refl, ap, subst}
-use mathlib.Core.Bool.{Bool, true, false}
+use mathlib.Core.Bool.{Bool, true, false, cond}
 use mathlib.Core.List.{List}
 use native.Mathlib.Omega.{arith}
 use lib.Dec.{ltb}
@@ -12,7 +12,6 @@ use borrow.Author.Tests.{ltb-true}
 use mir.Syntax.{w32, w64}
 use mir.Val.{Fits, toZ, ofZ}
 use Rattle.bits.proofs.Signed.{negative-read}
-use Rattle.token.specs.Kind.{pick}
 use Rattle.rules.specs.declared.names.Found.{Found}
 use Rattle.rules.specs.declared.names.Found.the-variants.{At, Nothing}
 use Rattle.rules.specs.Names.{heldOf, foundBelow, foundIn, variableNamed}
@@ -25,7 +24,7 @@ below-narrow : (n i : ℕ) → n < 2 ^ 32 → Narrow (foundBelow n i)
 unfolding foundBelow
 below-narrow n i h = go (ltb i n) refl
   where
-    go : (b : Bool) → ltb i n ≡ b → Narrow (pick b (At i) Nothing)
+    go : (b : Bool) → ltb i n ≡ b → Narrow (cond b (At i) Nothing)
     go true e = omega (arith, ltb-true i n e)
     go false e = tt
 

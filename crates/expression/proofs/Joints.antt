@@ -1,11 +1,10 @@
 -- Operators by their level. Assumes nothing.
 use Prim.Native.Nat.{ℕ}
 use mathlib.Core.Path.{_≡_, refl, ap, _∙_}
-use mathlib.Core.Bool.{Bool, true, false}
+use mathlib.Core.Bool.{Bool, true, false, cond}
 use native.Mathlib.Omega.{arith}
 use lib.Dec.{eqb}
 use borrow.Author.Tests.{eq-eqb, ne-eqb}
-use Rattle.token.specs.Kind.{pick}
 use Rattle.expression.specs.declared.Operator.{Operator}
 use Rattle.expression.specs.declared.Joint.{Joint}
 use Rattle.expression.specs.declared.Joint.the-variants.{By, Ends}
@@ -30,6 +29,6 @@ joint-is level sign {operator} e = go (operatorOf sign) refl e
     go Ends is e = is ∙ e
     go (By o) is e = is ∙ of (eqb (levelOf o) level) e
       where
-        of : (b : Bool) → pick b (By o) Ends ≡ By operator → By o ≡ By operator
+        of : (b : Bool) → cond b (By o) Ends ≡ By operator → By o ≡ By operator
         of true e = e
         of false e = absurd (let z : _≡_ {A = ℕ} 0 1 = cc in omega arith)

@@ -1,13 +1,12 @@
 -- A verdict as one line: `accepted P R V` or `refused N PLACE`, and a newline.
 use Prim.Native.Nat.{ℕ, zero, suc, _+_, _≤_, _/_, _%_}
 use mathlib.Core.Path.{_≡_}
-use mathlib.Core.Bool.{true, false}
+use mathlib.Core.Bool.{true, false, cond}
 use mathlib.Core.List.{List, [], _∷_, _++_}
 use lib.Dec.{ltb}
 use lib.ListN.{length, take}
 use lib.Seq.{sets}
 use Rattle.token.specs.Bytes.{bytes}
-use Rattle.token.specs.Kind.{pick}
 use Rattle.loader.specs.declared.whole.Verdict.{Verdict}
 use Rattle.loader.specs.declared.whole.Verdict.the-variants.{Accepted, Refused}
 use Rattle.loader.specs.Load.{isLong, judged, verdictOf}
@@ -37,7 +36,7 @@ pub record Put (before : List ℕ) (at : ℕ) (what after : List ℕ) (next : �
 
 -- the verdict on a text in tables of their stated sizes
 unfoldable pub verdictOn : List ℕ → Verdict
-verdictOn text = pick (isLong text) (Refused 2 0) (verdictOf (judged text))
+verdictOn text = cond (isLong text) (Refused 2 0) (verdictOf (judged text))
 
 -- the line on a text stands at the start of a buffer of eighty bytes, whole. The last part follows; it is stated so that lending the line is proved by itself
 pub record Line (text before after : List ℕ) (next : ℕ) : Type 0 where

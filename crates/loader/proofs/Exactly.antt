@@ -3,13 +3,12 @@
 use Prim.Native.Nat.{ℕ, _≤_}
 use native.Mathlib.Omega.{arith}
 use mathlib.Core.Path.{_≡_, refl, sym, ap, _∙_, subst}
-use mathlib.Core.Bool.{Bool, true, false, not}
+use mathlib.Core.Bool.{Bool, true, false, not, cond}
 use mathlib.Core.Logic.{_↔_, inl, inr}
 use mathlib.Core.List.{List}
 use lib.Dec.{ltb}
 use lib.ListN.{getD}
 use borrow.Author.Tests.{ltb-true, ltb-false, lt-ltb, le-ltb, not-true, not-false}
-use Rattle.token.specs.Kind.{pick}
 use Rattle.syntax.specs.declared.reader.Step.{Step}
 use Rattle.syntax.specs.declared.reader.Step.the-variants.{At, Refused as Stopped}
 use Rattle.syntax.specs.Claim.{Right}
@@ -74,8 +73,8 @@ module _ (text : List ℕ) where
   by-tests : {step : Step} {b c : Bool} → reading text .step ≡ step → isFault (last .fault) ≡ b → ltb (first last) (count last) ≡ c
       → verdictOf (judged text)
       ≡ onceRead step
-      (pick b (Refused (last .fault .number) (last .fault .place))
-      (pick c (Refused 16 (getD (last .registers) (registerAt (first last)) 0)) (Accepted (countOf (last .parameters)) (countOf (last .registers)) (countOf (last .variables)))))
+      (cond b (Refused (last .fault .number) (last .fault .place))
+      (cond c (Refused 16 (getD (last .registers) (registerAt (first last)) 0)) (Accepted (countOf (last .parameters)) (countOf (last .registers)) (countOf (last .variables)))))
   unfolding verdictOf judgedAs judged remade standing declared
   by-tests e f g = rw (e, f, g)
 
@@ -144,7 +143,7 @@ module _ (text : List ℕ) where
 
   module _ (t : Tables) where
     -- ---- 1 and 2 come first
-    answered : (a b : Bool) → isShort t ≡ a → isLong text ≡ b → loadOf text t .verdict ≡ pick a (Refused 1 0) (pick b (Refused 2 0) (verdictOf (judged text)))
+    answered : (a b : Bool) → isShort t ≡ a → isLong text ≡ b → loadOf text t .verdict ≡ cond a (Refused 1 0) (cond b (Refused 2 0) (verdictOf (judged text)))
     unfolding loadOf
     answered true b e f = rw e
     answered false true e f = rw (e, f)
@@ -187,8 +186,8 @@ module _ (text : List ℕ) where
 
     loaded-by : (a b : Bool) → isShort t ≡ a → isLong text ≡ b
         → loadOf text t
-        ≡ pick a (record { verdict = Refused 1 0; tables = t })
-        (pick b (record { verdict = Refused 2 0; tables = t }) (record { verdict = verdictOf (judged text); tables = laidOver (leftBy (judged text)) t }))
+        ≡ cond a (record { verdict = Refused 1 0; tables = t })
+        (cond b (record { verdict = Refused 2 0; tables = t }) (record { verdict = verdictOf (judged text); tables = laidOver (leftBy (judged text)) t }))
     unfolding loadOf
     loaded-by a b e f = rw (e, f)
 

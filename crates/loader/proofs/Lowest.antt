@@ -9,7 +9,6 @@ use mathlib.Core.List.{List, [], _∷_}
 use lib.Dec.{eqb}
 use lib.ListN.{getD}
 use borrow.Author.Tests.{eqb-true}
-use Rattle.token.specs.Kind.{pick}
 use Rattle.syntax.specs.Parameter.{ParameterRead}
 use Rattle.syntax.specs.Variable.{VariableRead}
 use Rattle.tables.specs.Rules.{rangesFit, parameterFault, placeTaken, registerFault, partMaps, typeFits, volatileFits, ownFault, mappedBefore, triggerShared, variableFault}
@@ -33,7 +32,7 @@ or-number : (f g : Fault) → orElse f g .number ≡ cond (isFault f) (f .number
 unfolding orElse isFault
 or-number f g = go (eqb (f .number) 0)
   where
-    go : (b : Bool) → pick b g f .number ≡ cond (not b) (f .number) (g .number)
+    go : (b : Bool) → cond b g f .number ≡ cond (not b) (f .number) (g .number)
     go true = refl
     go false = refl
 
@@ -54,7 +53,7 @@ unknown-seven text rs list zero = inl refl
 unknown-seven text rs list (suc n) = go (eqb (unknownIn text rs list n .number) 0) (isNothing (pieceNamed text rs list n)) (getD list (5 * n) 0) (unknown-seven text rs list n)
   where
     go : (b c : Bool) (place : ℕ) → (unknownIn text rs list n .number ≡ 0) ⊎ (unknownIn text rs list n .number ≡ 7)
-        → (pick b (pick c (record { number = 7; place = place }) noFault) (unknownIn text rs list n) .number ≡ 0) ⊎ (pick b (pick c (record { number = 7; place = place }) noFault) (unknownIn text rs list n) .number ≡ 7)
+        → (cond b (cond c (record { number = 7; place = place }) noFault) (unknownIn text rs list n) .number ≡ 0) ⊎ (cond b (cond c (record { number = 7; place = place }) noFault) (unknownIn text rs list n) .number ≡ 7)
     go true true place h = inr refl
     go true false place h = inl refl
     go false c place h = h
@@ -85,7 +84,7 @@ broken-number : (s : State) (before : Fault) (entered : State) → unlessBroken 
 unfolding unlessBroken stopped
 broken-number s before entered = go (isFault before)
   where
-    go : (b : Bool) → pick b (stopped s before) entered .fault .number ≡ cond b (before .number) (entered .fault .number)
+    go : (b : Bool) → cond b (stopped s before) entered .fault .number ≡ cond b (before .number) (entered .fault .number)
     go true = refl
     go false = refl
 

@@ -11,7 +11,7 @@ use lib.Dec.{eqb, leb}
 use borrow.Author.Tests.{eqb-true, leb-true, leb-false}
 use Rattle.token.specs.declared.Token.{Token}
 use Rattle.token.specs.declared.Token.the-variants.{Name, Word, Number, Bits, Sign, End, Bad}
-use Rattle.token.specs.Kind.{pick, refusedAs}
+use Rattle.token.specs.Kind.{refusedAs}
 use Rattle.syntax.specs.declared.reader.Step.the-variants.{Refused}
 use Rattle.syntax.specs.declared.register.Register.{Register}
 use Rattle.syntax.specs.Parameter.{ParameterRead}
@@ -71,7 +71,7 @@ or-ruled : (f g : Fault) → ruled (f .number) ≡ true → ruled (g .number) �
 unfolding orElse
 or-ruled f g h k = go (eqb (f .number) 0)
   where
-    go : (b : Bool) → ruled (pick b g f .number) ≡ true
+    go : (b : Bool) → ruled (cond b g f .number) ≡ true
     go true = k
     go false = h
 
@@ -87,7 +87,7 @@ least-ruled a b h k = cond-ruled (eqb a 0) b _ k (cond-ruled (eqb b 0) a _ h (go
     go true e = rw (min-eq-left (leb-true a b e)) h
     go false e = let l : b ≤ a = le-of-lt (leb-false a b e) in rw (min-eq-right l) k
 
-state-ruled : (b : Bool) (s t : State) → ruled (s .fault .number) ≡ true → ruled (t .fault .number) ≡ true → ruled (pick b s t .fault .number) ≡ true
+state-ruled : (b : Bool) (s t : State) → ruled (s .fault .number) ≡ true → ruled (t .fault .number) ≡ true → ruled (cond b s t .fault .number) ≡ true
 state-ruled true s t h k = h
 state-ruled false s t h k = k
 

@@ -3,11 +3,11 @@
 use Prim.Native.Nat.{ℕ, _+_, _≤_, _<_}
 use native.Mathlib.Omega.{arith}
 use mathlib.Core.Path.{_≡_, refl, sym, ap, _∙_, subst}
-use mathlib.Core.Bool.{Bool, true, false}
+use mathlib.Core.Bool.{Bool, true, false, cond}
 use mathlib.Core.List.{List}
 use lib.Dec.{eqb, leb}
 use lib.ListN.{length, replicate}
-use Rattle.token.specs.Kind.{pick, kindOf}
+use Rattle.token.specs.Kind.{kindOf}
 use Rattle.token.specs.Scan.{scanAt}
 use Rattle.syntax.specs.declared.reader.Step.{Step}
 use Rattle.syntax.specs.declared.reader.Step.the-variants.{At, Refused}
@@ -164,7 +164,7 @@ module _ (text : List ℕ) where
 
   -- one declaration more: one too many stops the reading, and so does one that is not whole
   some-next : (p : Progress State) (full : Bool) (kind : ℕ) (d : Declaration) (s : Step) → ((next : ℕ) → Some (counted (judge text) p d next))
-      → Some (pick full (movedTo p (extraAfter text kind (p .step))) (taken (judge text) p d s))
+      → Some (cond full (movedTo p (extraAfter text kind (p .step))) (taken (judge text) p d s))
   unfolding movedTo extraAfter taken
   some-next p true kind d s one = omega (arith, many-went (placeAt text (p .step)) (fixedAfter text kind (p .step)))
   some-next p false kind d (At next) one = one next

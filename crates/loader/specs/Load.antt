@@ -1,12 +1,11 @@
 -- Loading a text into lent tables: document 01, "Consistency rules and the desk's refusals".
 use Prim.Native.Nat.{ℕ}
 use mathlib.Core.Path.{_≡_}
-use mathlib.Core.Bool.{Bool, true, false, _&&_, _||_, not}
+use mathlib.Core.Bool.{Bool, true, false, _&&_, _||_, not, cond}
 use mathlib.Core.List.{List, [], _∷_, foldl, _++_}
 use mathlib.Core.Option.{Option, none, some}
 use lib.Dec.{ltb}
 use lib.ListN.{length, getD, drop, replicate}
-use Rattle.token.specs.Kind.{pick}
 use Rattle.syntax.specs.declared.reader.Step.{Step}
 use Rattle.syntax.specs.declared.reader.Step.the-variants.{At, Refused as Stopped}
 use Rattle.syntax.specs.Text.{Progress, reading, remade}
@@ -66,8 +65,8 @@ firstUncovered rs vs = firstOf (countOf rs) (λ i. not (covered rs vs (countOf v
 -- 6 to 15, then 16 at that register's name; or the counts
 unfoldable pub judgedAs : Fault → ℕ → List ℕ → List ℕ → List ℕ → Verdict
 judgedAs fault uncovered ps rs vs =
-    pick (isFault fault) (Refused (fault .number) (fault .place))
-    (pick (ltb uncovered (countOf rs)) (Refused 16 (getD rs (registerAt uncovered) 0)) (Accepted (countOf ps) (countOf rs) (countOf vs)))
+    cond (isFault fault) (Refused (fault .number) (fault .place))
+    (cond (ltb uncovered (countOf rs)) (Refused 16 (getD rs (registerAt uncovered) 0)) (Accepted (countOf ps) (countOf rs) (countOf vs)))
 
 -- 3 to 5 come first: only when the whole text reads, the rules
 unfoldable pub onceRead : Step → Verdict → Verdict
@@ -84,7 +83,7 @@ isAccepted (Refused number place) = false
 
 -- what the tables then hold over their stated sizes: accepting leaves what was judged, 3 to 16 leave zeros
 unfoldable pub leftBy : Progress State → State
-leftBy p = pick (isAccepted (verdictOf p)) (p .made) beginning
+leftBy p = cond (isAccepted (verdictOf p)) (p .made) beginning
 
 -- lent tables with that over their stated sizes; what lies past them is never touched
 unfoldable pub laidOver : State → Tables → Tables
@@ -98,8 +97,8 @@ laidOver s t =
 -- LOADING. 1 and 2 touch nothing
 unfoldable pub loadOf : List ℕ → Tables → Loaded
 loadOf text t =
-    pick (isShort t) (record { verdict = Refused 1 0; tables = t })
-    (pick (isLong text) (record { verdict = Refused 2 0; tables = t })
+    cond (isShort t) (record { verdict = Refused 1 0; tables = t })
+    (cond (isLong text) (record { verdict = Refused 2 0; tables = t })
     (record { verdict = verdictOf (judged text); tables = laidOver (leftBy (judged text)) t }))
 
 -- an answer in the words of document 01: the number and the place of a refusal, or the counts

@@ -17,7 +17,6 @@ use Rattle.tables.specs.Scan.{Mapped, entersOf}
 use Rattle.tables.specs.Marks.{marks}
 use Rattle.rules.specs.Words.{wordOf, written}
 use Rattle.rules.specs.Lists.{listFor, partWords}
-use Rattle.token.specs.Kind.{pick}
 use Rattle.syntax.specs.Variable.{VariableRead}
 use Rattle.rules.specs.declared.fault.Fault.{Fault}
 use Rattle.rules.specs.declared.declared.Judging.{Judging}
@@ -106,7 +105,7 @@ late-none place {number} {late} h z = go (eqb number 0) refl
   where
     go : (b : Bool) → eqb number 0 ≡ b → number ≡ 0
     go true e = eqb-true number 0 e
-    go false e = sym (ap (λ (f : Fault). f .number) (h ∙ ap (λ (b : Bool). pick (not b) (record { number = number; place = place }) noFault) e)) ∙ z
+    go false e = sym (ap (λ (f : Fault). f .number) (h ∙ ap (λ (b : Bool). cond (not b) (record { number = number; place = place }) noFault) e)) ∙ z
 
 pub faulted-number : (j : Judging) (f : Fault) {r : Judging} → r ≡ faulted j f → r .fault .number ≡ f .number
 unfolding faulted

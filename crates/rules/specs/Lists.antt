@@ -6,7 +6,6 @@ use mathlib.Core.Bool.{Bool, _&&_, cond}
 use mathlib.Core.List.{List, [], _∷_}
 use lib.Dec.{eqb}
 use lib.ListN.{getD, replicate}
-use Rattle.token.specs.Kind.{pick}
 use Rattle.syntax.specs.declared.variable.Variable.{Variable}
 use Rattle.tables.specs.Every.{every}
 use Rattle.tables.specs.Words.{present, registerPart}
@@ -62,5 +61,5 @@ listFor rs d first p =
 -- the 27 words of a part, by the list that gives it: present, trigger, count and pieces, or zeros
 unfoldable pub partWords : Variable → List ℕ → List ℕ → ℕ → ℕ → List ℕ
 partWords d first second trigger from =
-    pick (eqb from 1) (1 ∷ trigger ∷ wordOf (d .count) ∷ first)
-    (pick (eqb from 2) (1 ∷ trigger ∷ wordOf (d .rest .count) ∷ second) (replicate 27 0))
+    cond (eqb from 1) (1 ∷ trigger ∷ wordOf (d .count) ∷ first)
+    (cond (eqb from 2) (1 ∷ trigger ∷ wordOf (d .rest .count) ∷ second) (replicate 27 0))

@@ -1,12 +1,11 @@
 -- Masks: 8 elements, the rightmost for bit 0. The tables hold one as three numbers: which bits are dots, which are fixed, and which are fixed at 1.
 use Prim.Native.Nat.{ℕ, _-_}
-use mathlib.Core.Bool.{Bool, _||_}
+use mathlib.Core.Bool.{Bool, _||_, cond}
 use mathlib.Core.List.{List}
 use lib.Dec.{eqb}
 use lib.ListN.{getD}
 use Prim.Native.Char.{code}
 use Rattle.bits.specs.Bits.{numberOf}
-use Rattle.token.specs.Kind.{pick}
 use Rattle.token.specs.Bytes.{bytes}
 use Rattle.rules.specs.declared.mask.Element.{Element}
 use Rattle.rules.specs.declared.mask.Element.the-variants.{Dot, Fixed, One}
@@ -20,7 +19,7 @@ isElement One byte = eqb byte (code "1")
 
 -- a mask as it stands in the text, with its opening quote; without one, eight dots
 unfoldable pub maskText : List ℕ → Bool → ℕ → List ℕ
-maskText text given quote = pick given (nameOf text quote 9) (bytes "'........")
+maskText text given quote = cond given (nameOf text quote 9) (bytes "'........")
 
 -- the bits at which such an element stands
 unfoldable pub elements : List ℕ → Element → ℕ

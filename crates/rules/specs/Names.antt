@@ -1,11 +1,10 @@
 -- Names. An entry of a table records where its name stands in the text: the place in its first word, the length in its second.
 use Prim.Native.Nat.{ℕ, _+_, _-_, _*_, _/_, _<_, _^_, min}
 use mathlib.Core.Path.{_≡_}
-use mathlib.Core.Bool.{Bool, true, false, _&&_, _||_, not}
+use mathlib.Core.Bool.{Bool, true, false, _&&_, _||_, not, cond}
 use mathlib.Core.List.{List}
 use lib.Dec.{eqb, ltb}
 use lib.ListN.{length, getD, take, drop}
-use Rattle.token.specs.Kind.{pick}
 use Rattle.token.specs.Bytes.{begins}
 use Rattle.tables.specs.Every.{firstOf}
 use Rattle.tables.specs.Tables.{countOf}
@@ -38,7 +37,7 @@ pub record Held (stride : ℕ) (table : List ℕ) (r : ℕ) : Type 0 where
 
 -- the number below n, or none
 unfoldable pub foundBelow : ℕ → ℕ → Found
-foundBelow n i = pick (ltb i n) (At i) Nothing
+foundBelow n i = cond (ltb i n) (At i) Nothing
 
 -- the first of these entries with the name, or none
 unfoldable pub foundIn : List ℕ → List ℕ → ℕ → List ℕ → Found

@@ -4,7 +4,6 @@ use mathlib.Core.Bool.{Bool, true, false, _&&_, _||_, not, cond}
 use mathlib.Core.List.{List, [], _∷_, _++_}
 use lib.Dec.{eqb, leb}
 use lib.IntN.{pos, negsuc}
-use Rattle.token.specs.Kind.{pick}
 use Rattle.expression.specs.declared.Worth.{Worth}
 use Rattle.expression.specs.declared.Worth.the-variants.{Good, Bad}
 use Rattle.syntax.specs.declared.register.Port.{Port}
@@ -54,7 +53,7 @@ masksKept r =
 
 -- the port of the part with this modifier
 unfoldable pub portOf : Register → ℕ → Port
-portOf r mark = pick (r .two && not (eqb (r .first .mark) mark)) (r .second) (r .first)
+portOf r mark = cond (r .two && not (eqb (r .first .mark) mark)) (r .second) (r .first)
 
 -- the mask of a part: its own, or the bare one, or eight dots
 unfoldable pub partMask : List ℕ → Masks → ℕ → ℕ → Mask
@@ -63,7 +62,7 @@ partMask text masks own quote = maskOf (maskText text (leb 1 (masks .bare + own)
 -- present, parameter, offset, dots, fixed, ones; six zeros where the part is missing
 unfoldable pub partEntry : Bool → ℕ → ℕ → Mask → List ℕ
 partEntry present index offset mask =
-    pick present (1 ∷ wordOf index ∷ wordOf offset ∷ mask .dots ∷ mask .fixed ∷ mask .ones ∷ []) (0 ∷ 0 ∷ 0 ∷ 0 ∷ 0 ∷ 0 ∷ [])
+    cond present (1 ∷ wordOf index ∷ wordOf offset ∷ mask .dots ∷ mask .fixed ∷ mask .ones ∷ []) (0 ∷ 0 ∷ 0 ∷ 0 ∷ 0 ∷ 0 ∷ [])
 
 -- the parameter that a port names, among the parameters `ps`
 unfoldable pub portFound : List ℕ → List ℕ → Port → Found

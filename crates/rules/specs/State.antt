@@ -1,7 +1,7 @@
 -- How far the judging of declarations has come.
+use mathlib.Core.Bool.{cond}
 use Prim.Native.Nat.{ℕ}
 use mathlib.Core.List.{List}
-use Rattle.token.specs.Kind.{pick}
 use Rattle.rules.specs.declared.fault.Fault.{Fault}
 use Rattle.rules.specs.Fault.{isFault}
 use Rattle.rules.specs.declared.declared.Judging.{Judging}
@@ -26,7 +26,7 @@ faulted j fault = record { place = j .place; extent = j .extent; fault = fault }
 
 -- a state with a fault stays as it is
 unfoldable pub unlessStopped : State → State → State
-unlessStopped s next = pick (isFault (s .fault)) s next
+unlessStopped s next = cond (isFault (s .fault)) s next
 
 -- the same tables, with a fault
 unfoldable pub stopped : State → Fault → State
@@ -35,7 +35,7 @@ stopped s f =
 
 -- what is broken before there is an entry stops the judging; else the state with the entry says what comes of it
 unfoldable pub unlessBroken : State → Fault → State → State
-unlessBroken s before entered = pick (isFault before) (stopped s before) entered
+unlessBroken s before entered = cond (isFault before) (stopped s before) entered
 
 -- with other parameters, registers or variables, and what the rules say of them
 unfoldable pub withParameters : State → List ℕ → Fault → State

@@ -3,7 +3,7 @@
 use Prim.Native.Nat.{ℕ, _<_}
 use native.Mathlib.Omega.{arith}
 use mathlib.Core.Path.{_≡_, refl, sym, ap, _∙_, subst}
-use mathlib.Core.Bool.{Bool, true, false}
+use mathlib.Core.Bool.{Bool, true, false, cond}
 use mathlib.Core.Logic.{_⊎_, inl, inr}
 use mathlib.Core.List.{List, [], _∷_}
 use lib.Dec.{eqb}
@@ -13,7 +13,7 @@ use Rattle.token.specs.declared.Token.{Token}
 use Rattle.token.specs.declared.Token.the-variants.{Name, Word, Number, Bits, Sign, End, Bad}
 use Rattle.token.specs.Scan.{scanAt}
 use Rattle.token.specs.Fair.{placeOf, goesOn, Whole}
-use Rattle.token.specs.Kind.{pick, kindOf, refusedAs}
+use Rattle.token.specs.Kind.{kindOf, refusedAs}
 use Rattle.token.proofs.Laws.{scan-fair}
 use Rattle.grammar.specs.Grammar.{Text, StopsAt}
 use Rattle.syntax.specs.Published.{published, device-spec}
@@ -72,7 +72,7 @@ module _ (text : List ℕ) where
     where
       by : (c : Bool) → eqb (kindOf (scanAt text q .token)) 255 ≡ c
           → ((kindsAt text q ≡ []) × (kindOf (scanAt text q .token) ≡ 255)) ⊎ (kindsAt text q ≡ kindOf (scanAt text q .token) ∷ kindsAt text (scanAt text q .next))
-          → ByGrammar (pick c (At (scanAt text q .next)) (unexpected (scanAt text q .token)))
+          → ByGrammar (cond c (At (scanAt text q .next)) (unexpected (scanAt text q .token)))
       by true i t =
           let z = ends (length text) (scanAt text q .next) (scanAt text q .token) (eqb-true _ 255 i) (scan-fair text q .whole) in
           (z .1, published-text (accepted-published (kindsAt text 0) .0 (whole-accepted rules rules-pass device-ll (source text) 0 q e (kinds-end text q (z .0)))))
@@ -104,7 +104,7 @@ module _ (text : List ℕ) where
   unfolding ByGrammar fixedAfter Beyond unexpected
   before-stop place (At q) g b n p s = by (eqb (kindOf (scanAt text q .token)) 255) g
     where
-      by : (c : Bool) → ByGrammar (pick c (At (scanAt text q .next)) (unexpected (scanAt text q .token))) → place < p
+      by : (c : Bool) → ByGrammar (cond c (At (scanAt text q .next)) (unexpected (scanAt text q .token))) → place < p
       by true r = absurd (s .stops .no-text (r .1))
       by false (inl r) = omega (arith, b .0, b .1, scan-fair text q .from, stops-once _ _ n p r s .1)
       by false (inr r) = omega (arith, b .0, b .1, scan-fair text q .from, r .1 n p s)

@@ -2,11 +2,10 @@
 -- Assumes nothing.
 use Prim.Native.Nat.{ℕ, zero, suc}
 use mathlib.Core.Path.{_≡_, refl, sym, ap, _∙_}
-use mathlib.Core.Bool.{Bool, true, false}
+use mathlib.Core.Bool.{Bool, true, false, cond}
 use mathlib.Core.List.{List, [], _∷_, foldl, foldl-append}
 use lib.Dec.{eqb, leb}
 use lib.ListN.{length}
-use Rattle.token.specs.Kind.{pick}
 use Rattle.syntax.specs.declared.reader.Step.{Step}
 use Rattle.syntax.specs.declared.reader.Step.the-variants.{At, Refused}
 use Rattle.syntax.specs.Reader.{seenAt, fixedAfter}
@@ -45,12 +44,12 @@ module _ {X Y : Type 0} (j : X → Declaration → X) (k : Y → Declaration →
   taken-through p d (At next) = counted-through p d next
   taken-through p d (Refused number place) = refl
 
-  either-through : (c : Bool) (a b : Progress X) (u v : Progress Y) → remade f a ≡ u → remade f b ≡ v → remade f (pick c a b) ≡ pick c u v
+  either-through : (c : Bool) (a b : Progress X) (u v : Progress Y) → remade f a ≡ u → remade f b ≡ v → remade f (cond c a b) ≡ cond c u v
   either-through true a b u v e g = e
   either-through false a b u v e g = g
 
   -- a declaration, or one too many, which is refused at `s`
-  one-through : (c : Bool) (p : Progress X) (s : Step) (d : Declaration) (t : Step) → remade f (pick c (movedTo p s) (taken j p d t)) ≡ pick c (movedTo (remade f p) s) (taken k (remade f p) d t)
+  one-through : (c : Bool) (p : Progress X) (s : Step) (d : Declaration) (t : Step) → remade f (cond c (movedTo p s) (taken j p d t)) ≡ cond c (movedTo (remade f p) s) (taken k (remade f p) d t)
   unfolding movedTo remade
   one-through c p s d t = either-through c _ _ _ _ refl (taken-through p d t)
 

@@ -2,11 +2,10 @@
 -- Assumes nothing.
 use Prim.Native.Nat.{ℕ}
 use mathlib.Core.Path.{_≡_, refl, ap}
-use mathlib.Core.Bool.{Bool, true, false}
+use mathlib.Core.Bool.{Bool, true, false, cond}
 use mathlib.Core.List.{List}
 use lib.Dec.{eqb, leb}
 use lib.ListN.{length}
-use Rattle.token.specs.Kind.{pick}
 use Rattle.grammar.specs.Grammar.{Grammar, tok, _▸_, many, separated, lookup}
 use Rattle.grammar.specs.Sets.{mem}
 use Rattle.grammar.specs.Check.{nullable, firstWith, firstOfRule, first}
@@ -20,7 +19,7 @@ use Rattle.syntax.proofs.Follows.{Follows, same-reader, follows-held, p
 module _ (text : List ℕ) where
   -- one more item, or one too many
   module _ (most kind count : ℕ) (table : List ℕ) where
-    full-step : (s : Step) (more : Filed) (c : Bool) → leb most count ≡ c → unlessFull text most kind count table s more .listed .step ≡ pick c (extraAfter text kind s) (more .listed .step)
+    full-step : (s : Step) (more : Filed) (c : Bool) → leb most count ≡ c → unlessFull text most kind count table s more .listed .step ≡ cond c (extraAfter text kind s) (more .listed .step)
     unfolding unlessFull
     full-step s more true e = rw e
     full-step s more false e = rw e

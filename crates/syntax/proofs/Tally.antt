@@ -4,7 +4,7 @@
 use Prim.Native.Nat.{ℕ, zero, suc, _+_, _≤_, _<_}
 use native.Mathlib.Omega.{arith}
 use mathlib.Core.Path.{_≡_, refl, sym, ap, _∙_, subst}
-use mathlib.Core.Bool.{Bool, true, false, _||_, or-true}
+use mathlib.Core.Bool.{Bool, true, false, _||_, or-true, cond}
 use mathlib.Core.Logic.{_⊎_, inl, inr}
 use mathlib.Core.List.{List, [], _∷_}
 use mathlib.Core.Option.{Option, none, some}
@@ -15,7 +15,7 @@ use Rattle.token.specs.declared.Token.{Token}
 use Rattle.token.specs.declared.Token.the-variants.{Name, Word, Number, Bits, Sign, End, Bad}
 use Rattle.token.specs.Scan.{scanAt}
 use Rattle.token.specs.Fair.{placeOf, goesOn}
-use Rattle.token.specs.Kind.{pick, kindOf, refusedAs}
+use Rattle.token.specs.Kind.{kindOf, refusedAs}
 use Rattle.token.specs.Tokens.{tokensAt}
 use Rattle.token.proofs.Laws.{passes, scan-fair}
 use Rattle.token.proofs.Reading.{tokens-on, tokens-end}
@@ -159,7 +159,7 @@ module _ (text : List ℕ) where
       agrees-tok (Refused n p) a = refused-agrees c (tallied c k) n p a
       agrees-tok (At at) a = by (eqb (kindOf (scanAt text at .token)) k) refl
         where
-          by : (b : Bool) → eqb (kindOf (scanAt text at .token)) k ≡ b → Agrees (tallied c k) (pick b (At (scanAt text at .next)) (unexpected (scanAt text at .token)))
+          by : (b : Bool) → eqb (kindOf (scanAt text at .token)) k ≡ b → Agrees (tallied c k) (cond b (At (scanAt text at .next)) (unexpected (scanAt text at .token)))
           by true i = on-kind k c end fits at i (short (scanAt text at .token) k name i) a
           by false i = agrees-unexpected c (tallied c k) at a
 
@@ -198,7 +198,7 @@ module _ (text : List ℕ) where
     agrees-extra k end c d over (Refused n p) a = refused-agrees c d n p a
     agrees-extra k end c d over (At at) a = by (eqb (kindOf (scanAt text at .token)) k) refl
       where
-        by : (b : Bool) → eqb (kindOf (scanAt text at .token)) k ≡ b → Agrees d (tooMany (placeOf (scanAt text at .token)) (pick b (At (scanAt text at .next)) (unexpected (scanAt text at .token))))
+        by : (b : Bool) → eqb (kindOf (scanAt text at .token)) k ≡ b → Agrees d (tooMany (placeOf (scanAt text at .token)) (cond b (At (scanAt text at .next)) (unexpected (scanAt text at .token))))
         by true i =
             agrees-five c d at (goes (scanAt text at .token) k end i)
             (ap (λ (n : ℕ). longName (scanAt text at .token) || tooMuch c n) (eqb-true (kindOf (scanAt text at .token)) k i)
@@ -213,7 +213,7 @@ module _ (text : List ℕ) where
     agrees-name c fits (At at) a = by (longName (scanAt text at .token)) refl (eqb (kindOf (scanAt text at .token)) 1) refl
       where
         by : (b : Bool) → longName (scanAt text at .token) ≡ b → (d : Bool) → eqb (kindOf (scanAt text at .token)) 1 ≡ d
-            → Agrees (tallied c 1) (pick b (Refused 5 (placeOf (scanAt text at .token))) (pick d (At (scanAt text at .next)) (unexpected (scanAt text at .token))))
+            → Agrees (tallied c 1) (cond b (Refused 5 (placeOf (scanAt text at .token))) (cond d (At (scanAt text at .next)) (unexpected (scanAt text at .token))))
         by true e d i =
             agrees-five c (tallied c 1) at (goes (scanAt text at .token) 1 refl (long-is-name text (scanAt text at .token) e)) (ap (λ (b : Bool). b || tooMuch c (kindOf (scanAt text at .token))) e) a
         by false e true i = on-kind 1 c refl fits at i e a
@@ -235,7 +235,7 @@ module _ (text : List ℕ) where
         over (End p) e = (refl, refl)
         over (Bad p) e = absurd (omega arith)
 
-        by : (b : Bool) → eqb (kindOf (scanAt text at .token)) 255 ≡ b → Kept w (pick b (At (scanAt text at .next)) (unexpected (scanAt text at .token)))
+        by : (b : Bool) → eqb (kindOf (scanAt text at .token)) 255 ≡ b → Kept w (cond b (At (scanAt text at .next)) (unexpected (scanAt text at .token)))
         by true i =
             let last = over (scanAt text at .token) (eqb-true (kindOf (scanAt text at .token)) 255 i) in
             let is : kindOf (scanAt text at .token) ≡ 255 = eqb-true (kindOf (scanAt text at .token)) 255 i in

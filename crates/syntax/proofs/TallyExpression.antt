@@ -3,7 +3,7 @@
 use Prim.Native.Nat.{ℕ, zero, suc, _+_, _-_, _<_}
 use native.Mathlib.Omega.{arith}
 use mathlib.Core.Path.{_≡_, refl, sym, ap, _∙_, subst}
-use mathlib.Core.Bool.{Bool, true, false, _||_, or-true}
+use mathlib.Core.Bool.{Bool, true, false, _||_, or-true, cond}
 use mathlib.Core.Logic.{_⊎_, inl, inr}
 use mathlib.Core.List.{List, [], _∷_}
 use mathlib.Core.Option.{Option}
@@ -13,7 +13,7 @@ use borrow.Author.Tests.{eqb-true, eq-eqb, le-leb, lt-leb}
 use Rattle.token.specs.declared.Token.{Token}
 use Rattle.token.specs.declared.Token.the-variants.{Name, Word, Number, Bits, Sign, End, Bad as NoToken}
 use Rattle.token.specs.Scan.{scanAt}
-use Rattle.token.specs.Kind.{pick, kindOf, signOf}
+use Rattle.token.specs.Kind.{kindOf, signOf}
 use Rattle.expression.specs.declared.Worth.{Worth}
 use Rattle.expression.specs.declared.Outcome.{Outcome}
 use Rattle.expression.specs.declared.Outcome.the-variants.{Read, Refused as Stopped}
@@ -65,7 +65,7 @@ module _ (text : List ℕ) (w : Option ℕ) (registers variables : ℕ) where
           is k h = ap kindOf e ∙ ap (λ (n : ℕ). 256 + n) (eqb-true s k h)
 
           sign : (a : Bool) → eqb s 43 ≡ a → (b : Bool) → eqb s 45 ≡ b → (c : Bool) → eqb s 42 ≡ c → (d : Bool) → eqb s 47 ≡ d → (f : Bool) → eqb s 37 ≡ f
-              → (pick a (By Sum) (pick b (By Difference) (pick c (By Product) (pick d (By Quotient) (pick f (By Remainder) Ends)))) ≡ Ends → ⊥) → Agrees text w (before o) (At (scanAt text at .next))
+              → (cond a (By Sum) (cond b (By Difference) (cond c (By Product) (cond d (By Quotient) (cond f (By Remainder) Ends)))) ≡ Ends → ⊥) → Agrees text w (before o) (At (scanAt text at .next))
           sign true ea b eb c ec d ed f ef some = agrees-kind text w 299 (behind o) refl refl refl at (is 43 ea) a
           sign false ea true eb c ec d ed f ef some = agrees-kind text w 301 (behind o) refl refl refl at (is 45 eb) a
           sign false ea false eb true ec d ed f ef some = agrees-kind text w 298 (behind o) refl refl refl at (is 42 ec) a

@@ -3,7 +3,7 @@
 use Prim.Native.Nat.{ℕ, suc, _+_, min}
 use native.Mathlib.Omega.{arith}
 use mathlib.Core.Path.{_≡_, refl, ap, subst}
-use mathlib.Core.Bool.{Bool, true, false, _||_}
+use mathlib.Core.Bool.{Bool, true, false, _||_, cond}
 use mathlib.Core.List.{List, []}
 use mathlib.Core.Option.{Option}
 use lib.Dec.{eqb, leb, ltb}
@@ -14,7 +14,6 @@ use Rattle.syntax.specs.declared.reader.Step.{Step}
 use Rattle.syntax.specs.declared.reader.Step.the-variants.{At, Refused}
 use Rattle.syntax.specs.declared.reader.Named.{Named}
 use Rattle.syntax.specs.declared.register.Register.{Register}
-use Rattle.token.specs.Kind.{pick}
 use Rattle.syntax.specs.Reader.{seenAt, fixedAfter, extraAfter}
 use Rattle.syntax.specs.Heading.{headAfter}
 use Rattle.syntax.specs.Variable.{VariableRead}
@@ -96,11 +95,11 @@ module _ {X : Type 0} (judge : X → Declaration → X) (text : List ℕ) (w : O
   -- one more declaration that begins with a word of this kind, or one too many
   one-agrees : (kind most count : ℕ) (p : Progress X) (d : Declaration) (s : Step) → eqb 255 kind ≡ false
       → (ltb most (suc count) ≡ true → tooMuch (tally (p .registers) (p .variables) body) kind ≡ true) → At-spot (λ q. body) p
-      → (ltb most (suc count) ≡ false → At-spot (λ q. body) (taken judge p d s)) → At-spot (λ q. body) (pick (leb most count) (movedTo p (extraAfter text kind (p .step))) (taken judge p d s))
+      → (ltb most (suc count) ≡ false → At-spot (λ q. body) (taken judge p d s)) → At-spot (λ q. body) (cond (leb most count) (movedTo p (extraAfter text kind (p .step))) (taken judge p d s))
   unfolding movedTo
   one-agrees kind most count p d s end over a whole = by (leb most count) refl
     where
-      by : (b : Bool) → leb most count ≡ b → At-spot (λ q. body) (pick b (movedTo p (extraAfter text kind (p .step))) (taken judge p d s))
+      by : (b : Bool) → leb most count ≡ b → At-spot (λ q. body) (cond b (movedTo p (extraAfter text kind (p .step))) (taken judge p d s))
       by true e =
           agrees-extra text w kind end (tally (p .registers) (p .variables) body) (tally (p .registers) (p .variables) body)
           (over (lt-ltb most (suc count) (omega (arith, leb-true most count e)))) (p .step) a

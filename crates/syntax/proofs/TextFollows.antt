@@ -2,11 +2,10 @@
 -- Assumes nothing.
 use Prim.Native.Nat.{ℕ}
 use mathlib.Core.Path.{_≡_, refl, sym, ap}
-use mathlib.Core.Bool.{Bool, true, false, _||_}
+use mathlib.Core.Bool.{Bool, true, false, _||_, cond}
 use mathlib.Core.List.{List}
 use lib.Dec.{eqb, leb}
 use lib.ListN.{length, replicate}
-use Rattle.token.specs.Kind.{pick}
 use Rattle.grammar.specs.Grammar.{_▸_, _∣_, opt, many, lookup, some-of, separated}
 use Rattle.grammar.specs.Sets.{mem}
 use Rattle.grammar.specs.Check.{nullable, firstWith, firstOfRule, first}
@@ -40,7 +39,7 @@ module _ {X : Type 0} (judge : X → Declaration → X) (text : List ℕ) where
   -- ---- parameters
 
   parameter-step : (p : Progress X) (s : Step) (c : Bool) → leb 16 (p .parameters) ≡ c
-      → parameterWith judge text (movedTo p s) .step ≡ pick c (extraAfter text 1 s) (parameterAfter text (replicate 32 0) s .parameter .step)
+      → parameterWith judge text (movedTo p s) .step ≡ cond c (extraAfter text 1 s) (parameterAfter text (replicate 32 0) s .parameter .step)
   unfolding parameterWith movedTo
   parameter-step p s true e = rw e
   parameter-step p s false e = rw e (taken-step _ _ _)
@@ -92,13 +91,13 @@ module _ {X : Type 0} (judge : X → Declaration → X) (text : List ℕ) where
 
   -- a register, a variable, and one by its first word, over steps
   registerBy : Progress X → Step → Step
-  registerBy p s = pick (leb 64 (p .registers)) (extraAfter text 529 s) (registerAfter text s .step)
+  registerBy p s = cond (leb 64 (p .registers)) (extraAfter text 529 s) (registerAfter text s .step)
 
   variableBy : Progress X → Step → Step
-  variableBy p s = pick (leb 128 (p .variables)) (extraAfter text 537 s) (variableAfter text (replicate 40 0) (replicate 40 0) s .variable .step)
+  variableBy p s = cond (leb 128 (p .variables)) (extraAfter text 537 s) (variableAfter text (replicate 40 0) (replicate 40 0) s .variable .step)
 
   declarationBy : Progress X → Step → Step
-  declarationBy p s = pick (eqb (kindAt text s) 529) (registerBy p s) (variableBy p s)
+  declarationBy p s = cond (eqb (kindAt text s) 529) (registerBy p s) (variableBy p s)
 
   follows-register-by : (p : Progress X) → Follows text register-ll (registerBy p)
   unfolding registerBy
@@ -112,12 +111,12 @@ module _ {X : Type 0} (judge : X → Declaration → X) (text : List ℕ) where
   unfolding declarationBy mem first firstWith firstOfRule nullable lookup rules
   follows-declaration-by p =
       alt-follows text 529 register-ll variable-ll refl refl refl refl (follows-register-by p) (follows-variable-by p) (declarationBy p)
-      (λ s e. ap (λ (c : Bool). pick c (registerBy p s) (variableBy p s)) e)
-      (λ s e. ap (λ (c : Bool). pick c (registerBy p s) (variableBy p s)) e)
+      (λ s e. ap (λ (c : Bool). cond c (registerBy p s) (variableBy p s)) e)
+      (λ s e. ap (λ (c : Bool). cond c (registerBy p s) (variableBy p s)) e)
 
   -- whichever it is, one that is whole or one too many, the semicolon comes last
   ended-step : (p : Progress X) (d : Declaration) (k : ℕ) (s whole : Step) (c : Bool)
-      → pick c (movedTo p (extraAfter text k s)) (taken judge p d (fixedAfter text 315 whole)) .step ≡ fixedAfter text 315 (pick c (extraAfter text k s) whole)
+      → cond c (movedTo p (extraAfter text k s)) (taken judge p d (fixedAfter text 315 whole)) .step ≡ fixedAfter text 315 (cond c (extraAfter text k s) whole)
   unfolding movedTo
   ended-step p d k s whole true = sym (extra-stays 315 k s)
   ended-step p d k s whole false = taken-step p d (fixedAfter text 315 whole)

@@ -1,9 +1,9 @@
 -- The lists whose items are stored in a lent table, `item (sign item)*`: the ranges of a parameter, the pieces of a bit list.
+use mathlib.Core.Bool.{cond}
 use Prim.Native.Nat.{ℕ}
 use mathlib.Core.List.{List}
 use lib.Dec.{eqb, leb}
 use lib.ListN.{length}
-use Rattle.token.specs.Kind.{pick}
 use Rattle.syntax.specs.declared.reader.Step.{Step}
 use Rattle.syntax.specs.declared.reader.Listed.{Listed}
 use Rattle.syntax.specs.Reader.{seenAt, fixedAfter, extraAfter}
@@ -18,7 +18,7 @@ module _ (text : List ℕ) where
   -- one more item; where there are as many as there may be, one that begins with a token of the kind is refused
   unfoldable pub unlessFull : ℕ → ℕ → ℕ → List ℕ → Step → Filed → Filed
   unlessFull most kind count table from more =
-      pick (leb most count) (record { listed = record { count = count; step = extraAfter text kind from }; table = table }) more
+      cond (leb most count) (record { listed = record { count = count; step = extraAfter text kind from }; table = table }) more
 
   -- the sign after a list
   unfoldable pub closedBy : ℕ → Filed → Filed

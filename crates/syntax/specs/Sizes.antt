@@ -3,7 +3,7 @@
 use Prim.Native.Nat.{ℕ, suc, _≤_}
 use mathlib.Core.Path.{_≡_}
 use mathlib.Core.Logic.{_⊎_}
-use mathlib.Core.Bool.{Bool, true, false, _&&_, _||_}
+use mathlib.Core.Bool.{Bool, true, false, _&&_, _||_, cond}
 use mathlib.Core.List.{List, [], _∷_}
 use mathlib.Core.Option.{Option, none, some}
 use lib.Dec.{eqb, leb, ltb}
@@ -11,7 +11,7 @@ use lib.ListN.{length}
 use Rattle.token.specs.declared.Token.{Token}
 use Rattle.token.specs.declared.Token.the-variants.{Name, Word, Number, Bits, Sign, End, Bad}
 use Rattle.token.specs.Fair.{placeOf}
-use Rattle.token.specs.Kind.{pick, kindOf}
+use Rattle.token.specs.Kind.{kindOf}
 use Rattle.token.specs.Tokens.{tokensOf}
 use Rattle.syntax.specs.declared.reader.Step.{Step}
 use Rattle.syntax.specs.declared.reader.Step.the-variants.{At, Refused}
@@ -52,38 +52,38 @@ asksOperand k = eqb k (sign "@") || eqb k (sign "+") || eqb k (sign "-") || eqb 
 
 -- the spot behind a token of this kind
 unfoldable pub onward : Spot → ℕ → Spot
-onward front k = pick (eqb k (sign "(")) (parameter 1) front
+onward front k = cond (eqb k (sign "(")) (parameter 1) front
 onward (parameter n) k =
-    pick (eqb k (sign ",")) (parameter (suc n))
-    (pick (eqb k (sign "{")) (range n 1)
-    (pick (eqb k (sign ")")) body
+    cond (eqb k (sign ",")) (parameter (suc n))
+    (cond (eqb k (sign "{")) (range n 1)
+    (cond (eqb k (sign ")")) body
     (parameter n)))
 onward (range n m) k =
-    pick (eqb k (sign ",")) (range n (suc m))
-    (pick (eqb k (sign "}")) (parameter n)
+    cond (eqb k (sign ",")) (range n (suc m))
+    (cond (eqb k (sign "}")) (parameter n)
     (range n m))
 onward body k =
-    pick (eqb k 'register') (register [])
-    (pick (eqb k 'variable') (piece 1)
+    cond (eqb k 'register') (register [])
+    (cond (eqb k 'variable') (piece 1)
     body)
 onward (register o) k =
-    pick (asksOperand k) (operand o)
-    (pick (eqb k (sign ")")) (register (closed o))
-    (pick (eqb k (sign ";")) body
+    cond (asksOperand k) (operand o)
+    (cond (eqb k (sign ")")) (register (closed o))
+    (cond (eqb k (sign ";")) body
     (register o)))
 onward (operand o) k =
-    pick (eqb k (sign "(")) (operand (parenthesis ∷ o))
-    (pick (eqb k (sign "-")) (operand (minus ∷ o))
+    cond (eqb k (sign "(")) (operand (parenthesis ∷ o))
+    (cond (eqb k (sign "-")) (operand (minus ∷ o))
     (register (ended o)))
 onward (piece n) k =
-    pick (eqb k (sign "#")) (piece (suc n))
-    (pick (eqb k (sign "[")) (bracket n)
-    (pick (eqb k (sign ",")) (piece 1)
-    (pick (eqb k (sign ";")) body
+    cond (eqb k (sign "#")) (piece (suc n))
+    (cond (eqb k (sign "[")) (bracket n)
+    (cond (eqb k (sign ",")) (piece 1)
+    (cond (eqb k (sign ";")) body
     (piece n))))
 onward (bracket n) k =
-    pick (eqb k (sign ",")) (bracket (suc n))
-    (pick (eqb k (sign "]")) (piece n)
+    cond (eqb k (sign ",")) (bracket (suc n))
+    (cond (eqb k (sign "]")) (piece n)
     (bracket n))
 
 -- Whether a token of this kind passes a size at the spot. The first token of a parameter, range or piece too many does, whatever it is: where none can begin
@@ -111,8 +111,8 @@ nothingYet = record { registers = 0; variables = 0; spot = front }
 unfoldable pub tallied : Tally → ℕ → Tally
 tallied c k =
     record {
-      registers = pick (eqb k 'register') (suc (c .registers)) (c .registers);
-      variables = pick (eqb k 'variable') (suc (c .variables)) (c .variables);
+      registers = cond (eqb k 'register') (suc (c .registers)) (c .registers);
+      variables = cond (eqb k 'variable') (suc (c .variables)) (c .variables);
       spot = onward (c .spot) k;
     }
 

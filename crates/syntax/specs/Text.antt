@@ -1,10 +1,9 @@
 -- The whole text: `device name ( param (, param)* ) { (declaration ;)+ }` and then the end. It is read once, whatever a caller makes of what it declares.
 use Prim.Native.Nat.{ℕ, _+_}
-use mathlib.Core.Bool.{Bool, _||_}
+use mathlib.Core.Bool.{Bool, _||_, cond}
 use mathlib.Core.List.{List, [], _∷_, _++_}
 use lib.Dec.{eqb, leb}
 use lib.ListN.{length, replicate}
-use Rattle.token.specs.Kind.{pick}
 use Rattle.syntax.specs.declared.reader.Step.{Step}
 use Rattle.syntax.specs.declared.reader.Step.the-variants.{At, Refused}
 use Rattle.syntax.specs.declared.reader.Named.{Named}
@@ -70,7 +69,7 @@ module _ {X : Type 0} (judge : X → Declaration → X) where
     unfoldable pub parameterWith : Progress X → Progress X
     parameterWith p =
         let one : ParameterRead = parameterAfter text (replicate 32 0) (p .step) in
-        pick (leb mostParameters (p .parameters)) (movedTo p (extraAfter text name-kind (p .step)))
+        cond (leb mostParameters (p .parameters)) (movedTo p (extraAfter text name-kind (p .step)))
         (taken p (aParameter one) (one .parameter .step))
 
     -- (, param)*
@@ -81,19 +80,19 @@ module _ {X : Type 0} (judge : X → Declaration → X) where
     unfoldable pub registerWith : Progress X → Progress X
     registerWith p =
         let one : Register = registerAfter text (p .step) in
-        pick (leb mostRegisters (p .registers)) (movedTo p (extraAfter text 'register' (p .step)))
+        cond (leb mostRegisters (p .registers)) (movedTo p (extraAfter text 'register' (p .step)))
         (taken p (aRegister one) (fixedAfter text (sign ";") (one .step)))
 
     -- variable ;  with room for eight pieces of five words in each list
     unfoldable pub variableWith : Progress X → Progress X
     variableWith p =
         let one : VariableRead = variableAfter text (replicate 40 0) (replicate 40 0) (p .step) in
-        pick (leb mostVariables (p .variables)) (movedTo p (extraAfter text 'variable' (p .step)))
+        cond (leb mostVariables (p .variables)) (movedTo p (extraAfter text 'variable' (p .step)))
         (taken p (aVariable one) (fixedAfter text (sign ";") (one .variable .step)))
 
     -- a declaration ; by its first word
     unfoldable pub declarationWith : Progress X → Progress X
-    declarationWith p = pick (eqb (seenAt text (p .step) .kind) 'register') (registerWith p) (variableWith p)
+    declarationWith p = cond (eqb (seenAt text (p .step) .kind) 'register') (registerWith p) (variableWith p)
 
     -- (declaration ;)*
     unfoldable pub moreDeclarations : ℕ → Progress X → Progress X
