@@ -9,25 +9,39 @@ pub struct Argument {
     pub shape: String,
 }
 
-/// The laws of a file: what stands between blank lines, comments left out. Lines that only bring names in are none.
+/// The laws of a file: what stands between blank lines, comments left out. Definitions and the heads of modules are none. A line that only says what to unfold is not counted.
 pub fn laws(text: &str) -> Vec<Argument> {
-    let plain: Vec<&str> = text
-        .lines()
-        .filter(|l| !l.trim_start().starts_with("--"))
-        .collect();
-    plain
+    let plain =
+        |l: &&str| !l.trim_start().starts_with("--") && !l.trim_start().starts_with("module ");
+    let lines: Vec<&str> = text.lines().filter(plain).collect();
+    lines
         .split(|l| l.trim().is_empty())
-        .filter(|lines| {
-            !lines
+        .filter(|block| is_law(block))
+        .map(|block| Argument {
+            name: block[0].trim().chars().take(70).collect(),
+            lines: block
                 .iter()
-                .all(|l| l.starts_with("use ") || l.starts_with("pub use "))
-        })
-        .map(|lines| Argument {
-            name: lines[0].trim().chars().take(70).collect(),
-            lines: lines.len(),
-            shape: shape(&lines.join("\n")),
+                .filter(|l| !l.trim_start().starts_with("unfolding "))
+                .count(),
+            shape: shape(&block.join("\n")),
         })
         .collect()
+}
+
+fn is_law(block: &[&str]) -> bool {
+    let Some(head) = block.first() else {
+        return false;
+    };
+    let other = [
+        "use ",
+        "pub use ",
+        "abbrev ",
+        "unfoldable ",
+        "pub record ",
+        "record ",
+    ];
+    let defined = other.iter().any(|s| head.trim_start().starts_with(s));
+    !defined
 }
 
 /// What a function's proof argues itself: its clauses, but for those that the checker finds, that hold by facts at hand, or that cite a law on such facts.
@@ -125,6 +139,15 @@ mod tests {
         assert_eq!(laws.len(), 2);
         assert_eq!(alike(&laws, 3).len(), 1);
         assert_eq!(alike(&laws, 4).len(), 0);
+    }
+
+    #[test]
+    fn what_is_defined_is_no_law() {
+        assert_eq!(laws("abbrev pub two : ℕ\ntwo = 2\n").len(), 0);
+        assert_eq!(
+            laws("eight : more 7 one ≡ eight\nunfolding more\neight = refl\n")[0].lines,
+            2
+        );
     }
 
     #[test]

@@ -3,8 +3,8 @@
 use house::proofs::{alike, argued, laws, Argument};
 use house::tree::{below, File};
 
-/// A law of so many lines or more is written once. Shorter ones are a head and two lines, one for each case.
-const LEAST_LAW: usize = 4;
+/// A law of so many lines or more, a head and two others, is written once.
+const LEAST_LAW: usize = 3;
 /// So is what a function's proof argues itself, where that is so many clauses or more.
 const LEAST_CLAUSES: usize = 2;
 
