@@ -39,6 +39,11 @@ pub cond-same : {A : Type 0} (b : Bool) (x : A) → x ≡ cond b x x
 cond-same true x = refl
 cond-same false x = refl
 
+-- what matters only where a test passes
+pub cond-or : (a b : Bool) → (not a || b) ≡ cond a b true
+cond-or true b = refl
+cond-or false b = refl
+
 -- what a test `if !f(..)` tells of the definition that f's answer equals
 pub failed : {answer meaning : Bool} → answer ≡ meaning → not answer ≡ true → meaning ≡ false
 failed {answer} e t = sym e ∙ not-true answer t
