@@ -17,7 +17,8 @@ fn root() -> PathBuf {
 fn explained(text: &[u8]) -> String {
     let program = root().join("target/bin/explain");
     assert!(program.exists(), "run `rt check explain` first");
-    let mut child = Command::new(program)
+    let mut child = Command::new(root().join("run"))
+        .arg(program)
         .stdin(Stdio::piped())
         .stdout(Stdio::piped())
         .spawn()

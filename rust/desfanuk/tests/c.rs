@@ -2,6 +2,8 @@
 //! are this crate's, and the example tells the same story as the one in Rust. A compiler is there,
 //! since Rust links by it.
 
+use std::env;
+use std::ffi::OsString;
 use std::fs;
 use std::path::{Path, PathBuf};
 use std::process::Command;
@@ -26,7 +28,8 @@ fn archive() -> PathBuf {
 }
 
 fn compile(language: &[&str], rest: &[&Path]) {
-    let status = Command::new("cc")
+    let compiler = env::var_os("CC").unwrap_or(OsString::from("cc"));
+    let status = Command::new(compiler)
         .args(language)
         .args(WARNINGS)
         .arg("-I")
@@ -96,7 +99,8 @@ fn the_example_tells_the_same_story_in_c_and_in_rust() {
         &["-std=c99"],
         &[&source, &archive(), Path::new("-o"), &program],
     );
-    let told = Command::new(&program)
+    let told = Command::new(of_repository("run"))
+        .arg(&program)
         .arg(&board)
         .output()
         .expect("it runs");
