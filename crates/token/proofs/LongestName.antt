@@ -19,11 +19,11 @@ use Rattle.token.proofs.Lexemes.{run-many, run-longer, same-eq, same-se
 use Rattle.token.proofs.FirstByte.{name-lexeme, Taken, longer-none}
 use Rattle.logic.proofs.Tests.{and-right}
 
-word-is : (name : List ℕ) → wordOf name < 29 → name ≡ getD reserved (wordOf name) []
+pub word-is : (name : List ℕ) → wordOf name < 29 → name ≡ getD reserved (wordOf name) []
 unfolding wordOf reserved
 word-is name h = same-eq name _ (first-holds (same name) reserved 0 (wordOf name) (omega arith) h)
 
-no-word : (name : List ℕ) → 29 ≤ wordOf name → (k : ℕ) → k < 29 → name ≡ getD reserved k [] → ⊥
+pub no-word : (name : List ℕ) → 29 ≤ wordOf name → (k : ℕ) → k < 29 → name ≡ getD reserved k [] → ⊥
 unfolding wordOf reserved
 no-word name h k small e = omega (arith, first-least (same name) reserved 0 k small (ap (same name) (sym e) ∙ same-self name))
 
