@@ -1,5 +1,5 @@
 -- Rule 10 by slots: where no register before has a register's slot, none serves its place.
-use Prim.Native.Nat.{ℕ, zero, suc, _+_, _*_, _%_, _<_}
+use Prim.Native.Nat.{ℕ, _+_, _*_, _%_}
 use native.Mathlib.Omega.{arith}
 use native.Mathlib.Nat.{mod-lt}
 use mathlib.Core.Path.{_≡_, refl, sym, ap, ap₂, _∙_}
@@ -13,7 +13,7 @@ use Rattle.tables.specs.Marks.{has, marks}
 use Rattle.tables.specs.Tables.{RegisterPart, registerPartOf}
 use Rattle.tables.specs.Rules.{placeTaken, registerFault, serves}
 use Rattle.tables.specs.Scan.{faultBy, slotMap, slotOf}
-use Rattle.tables.proofs.Laws.{some-none-at}
+use Rattle.tables.proofs.Laws.{some-none-at, some-nowhere}
 use Rattle.tables.proofs.MapLaws.{map-more, map-seen}
 use Rattle.logic.proofs.Tests.{and-left, and-right, or-left}
 
@@ -29,11 +29,6 @@ other-slot a b h = go (serves a (b .parameter) (b .offset)) refl
         absurd (false≢true (sym h ∙ eq-eqb _ _ (sym (ap₂ (λ (x y : ℕ). (16 * x + y) % 256) p o))))
     go false e = refl
 
-some-nowhere : (n : ℕ) (p : ℕ → Bool) → ((k : ℕ) → k < n → p k ≡ false) → some n p ≡ false
-unfolding some
-some-nowhere zero p h = refl
-some-nowhere (suc n) p h = rw (some-nowhere n p (λ k l. h k (omega arith)), h n (omega arith))
-
 -- the slot of register i's part is new: its place is not taken
 pub slot-new : (rs : List ℕ) (p i : ℕ) {map : List ℕ} {at : ℕ} {b : Bool} → map ≡ slotMap rs p i → at ≡ slotOf (registerPartOf rs p i)
     → b ≡ eqb (getD map at 0) 0 → b ≡ true → false ≡ placeTaken rs p i
@@ -44,7 +39,7 @@ slot-new rs p i m s e t =
     let seen : eqb (getD (slotMap rs p i) (slotOf here) 0) 0 ≡ true = sym (e ∙ ap₂ (λ (w : List ℕ) (k : ℕ). eqb (getD w k 0) 0) m s) ∙ t in
     let none : some i (λ j. has (slotOf here) (slots j)) ≡ false = not-true _ (sym (map-seen 256 slots i (slotOf here) (mod-lt _ (omega arith))) ∙ seen) in
     let nobody : some i (λ j. serves (registerPartOf rs p j) (here .parameter) (here .offset)) ≡ false =
-    some-nowhere i _ (λ j l. other-slot (registerPartOf rs p j) here (or-left _ false (some-none-at i (λ k. has (slotOf here) (slots k)) none j l))) in
+    some-nowhere i (λ j. serves (registerPartOf rs p j) (here .parameter) (here .offset)) (λ j l. other-slot (registerPartOf rs p j) here (or-left _ false (some-none-at i (λ k. has (slotOf here) (slots k)) none j l))) in
     sym (ap (λ (b : Bool). here .present && b) nobody ∙ and-false (here .present))
 
 -- the map with a register more
