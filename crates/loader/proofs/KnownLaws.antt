@@ -225,10 +225,6 @@ module _ (text : List ℕ) (s : State) (r : Register) where
             variable = u .variable;
           })
 
-  pub known-register : (map : List ℕ) → Known text s map
-      → Known text registered (set map (markOf (recorded text (registered .registers) (15 * countOf (s .registers) + 1))) 1)
-  known-register map known = known-more text s registered map _ known register-undeclared
-
 variable-grew : (text : List ℕ) (s : State) (it : VariableRead) → Grew 59 (s .variables) (variablesWith text s it)
 unfolding withVariable
 variable-grew text s it =
@@ -264,10 +260,6 @@ module _ (text : List ℕ) (s : State) (it : VariableRead) where
             variable = nothing-more 59 (omega arith) text (s .variables) _ name (variable-grew text s it) (u .variable) (stands-not text _ _ name (rw g at other));
           })
 
-  pub known-variable : (map : List ℕ) → Known text s map
-      → Known text judged (set map (markOf (recorded text (judged .variables) (59 * countOf (s .variables) + 1))) 1)
-  known-variable map known = known-more text s judged map _ known variable-undeclared
-
 -- ---- as the code marks them
 -- the number of a name that an entry records: it is the name judged last, or another
 module _ (text table : List ℕ) (at : ℕ) {start extent : ℕ} (e : start ≡ getD table at 0) (f : extent ≡ getD table (at + 1) 0) where
@@ -291,11 +283,11 @@ declared-number text place extent e = rw e
 
 pub register-noted : (text : List ℕ) (s t : State) (r : Register) (map : List ℕ) {map′ : List ℕ} (count : ℕ) → Known text s map → t ≡ unlessStopped s (judgeRegister text s r)
     → count ≡ countOf (s .registers) → map′ ≡ set map (markOf (recorded text (t .registers) (15 * count + 1))) 1 → Known text t map′
-register-noted text s t r map count known e c m = rw (m, c, e) (known-register text s r map known)
+register-noted text s t r map count known e c m = rw (m, c, e) (known-more text s (unlessStopped s (judgeRegister text s r)) map _ known (register-undeclared text s r))
 
 pub variable-noted : (text : List ℕ) (s t : State) (it : VariableRead) (map : List ℕ) {map′ : List ℕ} (count : ℕ) → Known text s map → t ≡ judgeVariable text s it
     → count ≡ countOf (s .variables) → map′ ≡ set map (markOf (recorded text (t .variables) (59 * count + 1))) 1 → Known text t map′
-variable-noted text s t it map count known e c m = rw (m, c, e) (known-variable text s it map known)
+variable-noted text s t it map count known e c m = rw (m, c, e) (known-more text s (judgeVariable text s it) map _ known (variable-undeclared text s it))
 
 -- the same judging, over the same tables
 pub known-still : (text ps rs vs map : List ℕ) {j k : Judging} → k ≡ j → Known text (stateOf j ps rs vs) map → Known text (stateOf k ps rs vs) map
