@@ -7,7 +7,7 @@ ghost use lib.Dec.{eqb};
 ghost use Rattle.tables.specs.Every.{every};
 ghost use Rattle.tables.specs.Tables.{countOf, registerPartIn, registerPartOf};
 ghost use Rattle.tables.specs.Rules.{placeTaken, registerFault};
-ghost use Rattle.tables.specs.Scan.{slotMap, slotOf};
+ghost use Rattle.tables.specs.Scan.{slotMap, placeSlot};
 use crate::marks::mark;
 use crate::marks::unmarked;
 use crate::registers::fault_by;
@@ -17,7 +17,7 @@ use crate::words::word;
 // The slot of the place of a part: the offsets of one parameter do not meet, nor do those of many with up to 16 each.
 fn slot(registers: &[u32], at: usize) -> usize
     requires { ⌜ at < 2 ^ 40 ⌝ }
-    ensures { λ r. ⌜ r ≡ slotOf (registerPartIn (now (registers .entry)) at) ⌝ }
+    ensures { λ r. ⌜ r ≡ placeSlot (registerPartIn (now (registers .entry)) at) ⌝ }
 {
     (16 * word(registers, at + 1) + word(registers, at + 2)) % 256
 }
@@ -26,7 +26,7 @@ fn slot(registers: &[u32], at: usize) -> usize
 fn enter_slot(slots: &mut [u8], registers: &[u32], part: usize, i: usize)
     requires { ⌜ part < 2 ⌝ }
     requires { ⌜ i < 2 ^ 32 ⌝ }
-    ensures { λ _. ⌜ now (slots .exit) ≡ set (now (slots .entry)) (slotOf (registerPartOf (now (registers .entry)) part i)) 1 ⌝ }
+    ensures { λ _. ⌜ now (slots .exit) ≡ set (now (slots .entry)) (placeSlot (registerPartOf (now (registers .entry)) part i)) 1 ⌝ }
 {
     mark(slots, slot(registers, 15 * i + 4 + 6 * part));
 }
