@@ -300,17 +300,17 @@ known-moved text ps rs vs map l s e known = rw e known
 
 -- ---- the heading: the device's name, and the parameters' one by one
 -- what has no mark had none at first, and is none of the first n parameters
-pub record Heading (text ps first map : List ℕ) (n : ℕ) : Type 0 where
+pub record HeadMarks (text ps first map : List ℕ) (n : ℕ) : Type 0 where
   pub long : length map ≡ 4096
   pub before : (name : List ℕ) → getD map (markOf name) 0 ≡ 0 → getD first (markOf name) 0 ≡ 0
   pub parameter : (name : List ℕ) → getD map (markOf name) 0 ≡ 0 → (i : ℕ) → i < n → isNamed text ps (36 * i + 1) name ≡ false
 
 module _ (text ps first : List ℕ) where
-  pub heading-first : length first ≡ 4096 → Heading text ps first first 0
+  pub heading-first : length first ≡ 4096 → HeadMarks text ps first first 0
   heading-first long = record { long = long; before = λ name none. none; parameter = λ name none i l. absurd (omega arith) }
 
-  pub heading-more : (map : List ℕ) {map′ : List ℕ} (n : ℕ) → Heading text ps first map n → map′ ≡ set map (markOf (recorded text ps (36 * n + 1))) 1
-      → Heading text ps first map′ (n + 1)
+  pub heading-more : (map : List ℕ) {map′ : List ℕ} (n : ℕ) → HeadMarks text ps first map n → map′ ≡ set map (markOf (recorded text ps (36 * n + 1))) 1
+      → HeadMarks text ps first map′ (n + 1)
   unfolding isNamed recorded
   heading-more map n h e =
       rw e
@@ -332,7 +332,7 @@ unfolding heldOf
 empty-nothing text t stride name e = each-nothing text t stride name (λ i l. absurd (omega (arith, l, e, min-le-left (countOf t) ((length t - 1) / stride))))
 
 pub heading-known : (text : List ℕ) (j : Judging) (ps blank : List ℕ) {first map : List ℕ} {n held : ℕ} → length blank ≡ 4096
-    → first ≡ set blank (markOf (nameOf text (j .place) (j .extent))) 1 → Heading text ps first map n → held ≡ heldOf 36 ps → held ≤ n
+    → first ≡ set blank (markOf (nameOf text (j .place) (j .extent))) 1 → HeadMarks text ps first map n → held ≡ heldOf 36 ps → held ≤ n
     → (rs vs : List ℕ) → countOf rs ≡ 0 → countOf vs ≡ 0 → Known text (stateOf j ps rs vs) map
 unfolding stateOf
 heading-known text j ps blank {first} {map} long e h g all rs vs r v =

@@ -3,13 +3,13 @@ use Prim.Native.Nat.{_-_}
 use denote.Ref.{now}
 use mathlib.Core.Path.{_≡_, refl, _∙_}
 use lib.ListN.{length}
-use Rattle.loader.proofs.KnownLaws.{Heading, heading-first, heading-more, heading-known, entry-number, marked-there}
+use Rattle.loader.proofs.KnownLaws.{HeadMarks, heading-first, heading-more, heading-known, entry-number, marked-there}
 use borrow.Author.Needs.{needs}
 use Rattle.loader.proofs.known.mark_heading.Statement.{statement}
 use Rattle.loader.proofs.known.mark_heading.Tie as tie
 
 abbrev Inv-loop : tie.InvT-loop
-Inv-loop text parameters known₀ n i₀ known i = (length known ≡ length known₀) × Heading text parameters known₀ known i
+Inv-loop text parameters known₀ n i₀ known i = (length known ≡ length known₀) × HeadMarks text parameters known₀ known i
 
 abbrev μ-loop : tie.MeasureT-loop
 μ-loop text parameters known₀ n i₀ known i = n - i
