@@ -3,6 +3,7 @@ pub mod LoadSteps
 pub mod PieceCounts
 pub mod ReadKeeps
 pub mod ShapeLaws
+pub mod KnownLaws
 pub mod ReadyLaws
 pub mod VariableReady
 pub mod NextSteps

@@ -23,7 +23,7 @@ use Rattle.rules.specs.State.{State, stateOf, unlessStopped, unlessBroken, stop
 use Rattle.rules.specs.Lists.{paired, allHave, listFor, partWords}
 use Rattle.rules.specs.Variable.{triggers, firstPieces, secondPieces, listOf, earlyFault, nameFault, variablesWith, addedVariable, judgeVariable, MappedUnless}
 use Rattle.loader.specs.Judge.{judge}
-use Rattle.loader.specs.Ready.{Ready}
+use Rattle.loader.specs.Ready.{Ready, Judgeable}
 use Rattle.loader.proofs.PieceCounts.{WellRead}
 use Rattle.loader.proofs.ShapeLaws.{Listed, pieces-length, pieces-blank, part-shape, entry-length, entry-added, entry-shape, flag-small}
 use Rattle.tables.proofs.Growth.{Added}
@@ -201,23 +201,16 @@ ready-variable text p it next {reads′ = reads′} {writes′ = writes′} read
 
 -- what judging the variable asks for, and what its answer says of the maps
 module _ (p : Progress State) {reads writes : List ℕ} (ready : Ready p reads writes) where
-  pub judged-asks : (d : Variable) → leb 128 (p .variables) ≡ false → WellRead d
-      → (countOf (p .made .registers) ≤ 64) × ((countOf (p .made .variables) < 32768) × ((d .count ≤ 8) × ((d .rest .count ≤ 8)
-      × ((p .made .fault .number ≡ 0 → every (countOf (p .made .variables)) (variableShape (p .made .variables)) ≡ true)
-      × MappedUnless (p .made .fault .number) (p .made .variables) (countOf (p .made .variables)) reads writes))))
-  judged-asks d room w = (
-    omega (arith, ready .registers-counted, ready .registers-few),
-    (
-      omega (arith, ready .variables-counted, leb-false 128 (p .variables) room),
-      (
-        w .few,
-        (
-          w .second-few,
-          (ready .shaped, ready .mapped),
-        ),
-      ),
-    ),
-  )
+  pub judged-asks : (d : Variable) → leb 128 (p .variables) ≡ false → WellRead d → Judgeable (p .made .fault .number) (p .made .registers) (p .made .variables) d reads writes
+  judged-asks d room w =
+      record {
+        registers-few = omega (arith, ready .registers-counted, ready .registers-few);
+        variables-few = omega (arith, ready .variables-counted, leb-false 128 (p .variables) room);
+        few = w .few;
+        second-few = w .second-few;
+        shaped = ready .shaped;
+        mapped = ready .mapped;
+      }
 
 pub mapped-judged : (j : Judging) (ps rs vs : List ℕ) {s : State} (n : ℕ) {reads writes : List ℕ} → stateOf j ps rs vs ≡ s
     → MappedUnless (j .fault .number) vs n reads writes → MappedUnless (s .fault .number) (s .variables) n reads writes

@@ -1,24 +1,29 @@
 // The second half of a text, `{ (declaration ;)+ }`: each register and each variable is judged as soon as it is read.
 use crate::heading::Loading;
 use crate::heading::moved;
+use crate::known::declared_at;
+use crate::known::mark_entry;
 use rules::Judging;
 use rules::fault;
 use rules::register::judge_register;
 use rules::variable::judge_variable;
+use syntax::Register;
 use syntax::Step;
 use syntax::Variable;
+use tables::marks::unmarked;
+use tables::words::word;
 ghost use mathlib.Core.Path.{_≡_};
 ghost use lib.ListN.{length};
-ghost use Prim.Native.Nat.{_+_, _≤_, _<_, _^_};
-ghost use mathlib.Core.Bool.{true};
+ghost use Prim.Native.Nat.{_+_, _<_, _^_};
+ghost use Rattle.syntax.specs.Reader.{fixedAfter};
 ghost use Rattle.syntax.specs.Text.{registerWith, variableWith, declarationWith, moreDeclarations, declarationsWith};
-ghost use Rattle.tables.specs.Every.{every};
 ghost use Rattle.tables.specs.Tables.{countOf};
-ghost use Rattle.tables.specs.Rules.{variableShape};
 ghost use Rattle.rules.specs.State.{stateOf, unlessStopped};
+ghost use Rattle.rules.specs.Register.{judgeRegister};
 ghost use Rattle.rules.specs.Variable.{readOf, judgeVariable, MappedUnless};
-ghost use Rattle.loader.specs.Judge.{judge, progressOf, variableMore};
-ghost use Rattle.loader.specs.Ready.{Ready};
+ghost use Rattle.loader.specs.Judge.{judge, progressOf, movedBy, variableMore};
+ghost use Rattle.loader.specs.Known.{Known};
+ghost use Rattle.loader.specs.Ready.{Noted, Judgeable};
 
 const REGISTER: u16 = 529;
 
@@ -30,14 +35,46 @@ const OPEN_BRACE: u16 = 379;
 
 const CLOSE_BRACE: u16 = 381;
 
+// A name without a mark is not searched for. The entry's name gets its mark.
+fn register_judged(
+    text: &[u8],
+    judging: Judging,
+    parameters: &[u32],
+    registers: &mut [u32],
+    variables: &[u32],
+    register: Register,
+    known: &mut [u8],
+) -> Judging
+    requires { ⌜ Known (now text) (stateOf judging (now parameters) (now registers) (now variables)) (now known) ⌝ }
+    ensures judged { λ r. ⌜ stateOf r (now (parameters .entry)) (now (registers .exit)) (now (variables .entry)) ≡ unlessStopped (stateOf judging (now (parameters .entry)) (now (registers .entry)) (now (variables .entry))) (judgeRegister (now (text .entry)) (stateOf judging (now (parameters .entry)) (now (registers .entry)) (now (variables .entry))) register) ⌝ }
+    ensures names { λ r. ⌜ Known (now (text .entry)) (stateOf r (now (parameters .entry)) (now (registers .exit)) (now (variables .entry))) (now (known .exit)) ⌝ }
+{
+    let name = declared_at(text, register.place, register.length);
+    let count = word(registers, 0);
+    let judged = judge_register(
+        text,
+        judging,
+        parameters,
+        registers,
+        variables,
+        register,
+        unmarked(known, name.number),
+    );
+    mark_entry(text, registers, 15 * count + 1, name, known);
+    judged
+}
+
 fn register_next(
     text: &[u8],
     loading: Loading,
     parameters: &[u32],
     registers: &mut [u32],
     variables: &[u32],
+    known: &mut [u8],
 ) -> Loading
-    ensures { λ r. ⌜ progressOf r (now (parameters .entry)) (now (registers .exit)) (now (variables .entry)) ≡ registerWith (judge (now (text .entry))) (now (text .entry)) (progressOf loading (now (parameters .entry)) (now (registers .entry)) (now (variables .entry))) ⌝ }
+    requires { ⌜ Known (now text) (stateOf (loading .judging) (now parameters) (now registers) (now variables)) (now known) ⌝ }
+    ensures read { λ r. ⌜ progressOf r (now (parameters .entry)) (now (registers .exit)) (now (variables .entry)) ≡ registerWith (judge (now (text .entry))) (now (text .entry)) (progressOf loading (now (parameters .entry)) (now (registers .entry)) (now (variables .entry))) ⌝ }
+    ensures names { λ r. ⌜ Known (now (text .entry)) (stateOf (r .judging) (now (parameters .entry)) (now (registers .exit)) (now (variables .entry))) (now (known .exit)) ⌝ }
 {
     let from = loading.step;
     if 64 <= loading.registers {
@@ -51,7 +88,7 @@ fn register_next(
         return moved(loading, end);
     };
     let so_far = loading.judging;
-    let judging = judge_register(text, so_far, parameters, registers, variables, one);
+    let judging = register_judged(text, so_far, parameters, registers, variables, one, known);
     Loading {
         parameters: loading.parameters,
         registers: loading.registers + 1,
@@ -73,21 +110,20 @@ fn variable_judged(
     second: &[usize],
     reads: &mut [u8],
     writes: &mut [u8],
+    known: &mut [u8],
 ) -> Judging
-    requires { ⌜ countOf (now registers) ≤ 64 ⌝ }
-    requires { ⌜ countOf (now variables) < 2 ^ 15 ⌝ }
-    requires { ⌜ variable .count ≤ 8 ⌝ }
-    requires { ⌜ variable .rest .count ≤ 8 ⌝ }
-    requires { ⌜ (judging .fault .number ≡ 0 → every (countOf (now variables)) (variableShape (now variables)) ≡ true) ⌝ }
-    requires { ⌜ MappedUnless (judging .fault .number) (now variables) (countOf (now variables)) (now reads) (now writes) ⌝ }
+    requires { ⌜ Judgeable (judging .fault .number) (now registers) (now variables) variable (now reads) (now writes) ⌝ }
+    requires { ⌜ Known (now text) (stateOf judging (now parameters) (now registers) (now variables)) (now known) ⌝ }
     ensures judged { λ r. ⌜ stateOf r (now (parameters .entry)) (now (registers .entry)) (now (variables .exit)) ≡ unlessStopped (stateOf judging (now (parameters .entry)) (now (registers .entry)) (now (variables .entry))) (judgeVariable (now (text .entry)) (stateOf judging (now (parameters .entry)) (now (registers .entry)) (now (variables .entry))) (readOf variable (now (first .entry)) (now (second .entry)))) ⌝ }
     ensures mapped { λ r. ⌜ MappedUnless (r .fault .number) (now (variables .exit)) (countOf (now (variables .entry)) + 1) (now (reads .exit)) (now (writes .exit)) ⌝ }
+    ensures names { λ r. ⌜ Known (now (text .entry)) (stateOf r (now (parameters .entry)) (now (registers .entry)) (now (variables .exit))) (now (known .exit)) ⌝ }
 {
-    let so_far = judging.fault;
-    if fault::is_fault(so_far) {
+    if fault::is_fault(judging.fault) {
         return judging;
     }
-    judge_variable(
+    let name = declared_at(text, variable.place, variable.length);
+    let count = word(variables, 0);
+    let judged = judge_variable(
         text,
         judging,
         parameters,
@@ -96,9 +132,12 @@ fn variable_judged(
         variable,
         first,
         second,
+        unmarked(known, name.number),
         reads,
         writes,
-    )
+    );
+    mark_entry(text, variables, 59 * count + 1, name, known);
+    judged
 }
 
 // One variable more, which ends at a step.
@@ -115,7 +154,8 @@ fn with_variable(loading: Loading, judging: Judging, step: Step) -> Loading
     }
 }
 
-fn variable_next(
+// A variable, where one more may come.
+fn variable_due(
     text: &[u8],
     loading: Loading,
     parameters: &[u32],
@@ -123,15 +163,14 @@ fn variable_next(
     variables: &mut [u32],
     reads: &mut [u8],
     writes: &mut [u8],
+    known: &mut [u8],
 ) -> Loading
-    requires { ⌜ Ready (progressOf loading (now parameters) (now registers) (now variables)) (now reads) (now writes) ⌝ }
+    requires { ⌜ loading .variables < 128 ⌝ }
+    requires { ⌜ Noted (now text) (progressOf loading (now parameters) (now registers) (now variables)) (now reads) (now writes) (now known) ⌝ }
     ensures read { λ r. ⌜ progressOf r (now (parameters .entry)) (now (registers .entry)) (now (variables .exit)) ≡ variableWith (judge (now (text .entry))) (now (text .entry)) (progressOf loading (now (parameters .entry)) (now (registers .entry)) (now (variables .entry))) ⌝ }
-    ensures ready { λ r. ⌜ Ready (progressOf r (now (parameters .entry)) (now (registers .entry)) (now (variables .exit))) (now (reads .exit)) (now (writes .exit)) ⌝ }
+    ensures noted { λ r. ⌜ Noted (now (text .entry)) (progressOf r (now (parameters .entry)) (now (registers .entry)) (now (variables .exit))) (now (reads .exit)) (now (writes .exit)) (now (known .exit)) ⌝ }
 {
     let from = loading.step;
-    if 128 <= loading.variables {
-        return moved(loading, syntax::extra_after(text, VARIABLE, from));
-    }
     let mut first = [0usize; 40];
     let mut second = [0usize; 40];
     let one = syntax::variable_after(text, from, &mut first, &mut second);
@@ -140,10 +179,9 @@ fn variable_next(
     let Step::At(_) = end else {
         return moved(loading, end);
     };
-    let so_far = loading.judging;
     let judging = variable_judged(
         text,
-        so_far,
+        loading.judging,
         parameters,
         registers,
         variables,
@@ -152,8 +190,39 @@ fn variable_next(
         &second,
         reads,
         writes,
+        known,
     );
     with_variable(loading, judging, end)
+}
+
+fn variable_next(
+    text: &[u8],
+    loading: Loading,
+    parameters: &[u32],
+    registers: &[u32],
+    variables: &mut [u32],
+    reads: &mut [u8],
+    writes: &mut [u8],
+    known: &mut [u8],
+) -> Loading
+    requires { ⌜ Noted (now text) (progressOf loading (now parameters) (now registers) (now variables)) (now reads) (now writes) (now known) ⌝ }
+    ensures read { λ r. ⌜ progressOf r (now (parameters .entry)) (now (registers .entry)) (now (variables .exit)) ≡ variableWith (judge (now (text .entry))) (now (text .entry)) (progressOf loading (now (parameters .entry)) (now (registers .entry)) (now (variables .entry))) ⌝ }
+    ensures noted { λ r. ⌜ Noted (now (text .entry)) (progressOf r (now (parameters .entry)) (now (registers .entry)) (now (variables .exit))) (now (reads .exit)) (now (writes .exit)) (now (known .exit)) ⌝ }
+{
+    let from = loading.step;
+    if 128 <= loading.variables {
+        return moved(loading, syntax::extra_after(text, VARIABLE, from));
+    }
+    variable_due(
+        text,
+        loading,
+        parameters,
+        registers,
+        variables,
+        reads,
+        writes,
+        known,
+    )
 }
 
 // A register or a variable, by its first word.
@@ -165,15 +234,16 @@ fn declaration_next(
     variables: &mut [u32],
     reads: &mut [u8],
     writes: &mut [u8],
+    known: &mut [u8],
 ) -> Loading
-    requires { ⌜ Ready (progressOf loading (now parameters) (now registers) (now variables)) (now reads) (now writes) ⌝ }
+    requires { ⌜ Noted (now text) (progressOf loading (now parameters) (now registers) (now variables)) (now reads) (now writes) (now known) ⌝ }
     ensures read { λ r. ⌜ progressOf r (now (parameters .entry)) (now (registers .exit)) (now (variables .exit)) ≡ declarationWith (judge (now (text .entry))) (now (text .entry)) (progressOf loading (now (parameters .entry)) (now (registers .entry)) (now (variables .entry))) ⌝ }
-    ensures ready { λ r. ⌜ Ready (progressOf r (now (parameters .entry)) (now (registers .exit)) (now (variables .exit))) (now (reads .exit)) (now (writes .exit)) ⌝ }
+    ensures noted { λ r. ⌜ Noted (now (text .entry)) (progressOf r (now (parameters .entry)) (now (registers .exit)) (now (variables .exit))) (now (reads .exit)) (now (writes .exit)) (now (known .exit)) ⌝ }
 {
     let from = loading.step;
     let seen = syntax::look(text, from);
     if seen.kind == REGISTER {
-        return register_next(text, loading, parameters, registers, variables);
+        return register_next(text, loading, parameters, registers, variables, known);
     }
     variable_next(
         text,
@@ -183,6 +253,7 @@ fn declaration_next(
         variables,
         reads,
         writes,
+        known,
     )
 }
 
@@ -195,10 +266,11 @@ fn more_declarations(
     variables: &mut [u32],
     reads: &mut [u8],
     writes: &mut [u8],
+    known: &mut [u8],
 ) -> Loading
-    requires { ⌜ Ready (progressOf loading (now parameters) (now registers) (now variables)) (now reads) (now writes) ⌝ }
+    requires { ⌜ Noted (now text) (progressOf loading (now parameters) (now registers) (now variables)) (now reads) (now writes) (now known) ⌝ }
     ensures read { λ r. ⌜ progressOf r (now (parameters .entry)) (now (registers .exit)) (now (variables .exit)) ≡ moreDeclarations (judge (now (text .entry))) (now (text .entry)) (length (now (text .entry))) (progressOf loading (now (parameters .entry)) (now (registers .entry)) (now (variables .entry))) ⌝ }
-    ensures ready { λ r. ⌜ Ready (progressOf r (now (parameters .entry)) (now (registers .exit)) (now (variables .exit))) (now (reads .exit)) (now (writes .exit)) ⌝ }
+    ensures noted { λ r. ⌜ Noted (now (text .entry)) (progressOf r (now (parameters .entry)) (now (registers .exit)) (now (variables .exit))) (now (reads .exit)) (now (writes .exit)) (now (known .exit)) ⌝ }
 {
     let mut all = loading;
     let mut room = text.len();
@@ -208,10 +280,27 @@ fn more_declarations(
         if !syntax::declares(seen.kind) {
             return all;
         }
-        all = declaration_next(text, all, parameters, registers, variables, reads, writes);
+        all = declaration_next(
+            text,
+            all,
+            parameters,
+            registers,
+            variables,
+            reads,
+            writes,
+            known,
+        );
         room -= 1;
     }
     all
+}
+
+// Past one token, which is to be of this kind.
+fn past(text: &[u8], loading: Loading, kind: u16) -> Loading
+    ensures { λ r. ⌜ r ≡ movedBy loading (fixedAfter (now (text .entry)) kind (loading .step)) ⌝ }
+{
+    let from = loading.step;
+    moved(loading, syntax::fixed_after(text, kind, from))
 }
 
 pub fn declarations_of(
@@ -222,14 +311,13 @@ pub fn declarations_of(
     variables: &mut [u32],
     reads: &mut [u8],
     writes: &mut [u8],
+    known: &mut [u8],
 ) -> Loading
-    requires { ⌜ Ready (progressOf loading (now parameters) (now registers) (now variables)) (now reads) (now writes) ⌝ }
+    requires { ⌜ Noted (now text) (progressOf loading (now parameters) (now registers) (now variables)) (now reads) (now writes) (now known) ⌝ }
     ensures read { λ r. ⌜ progressOf r (now (parameters .entry)) (now (registers .exit)) (now (variables .exit)) ≡ declarationsWith (judge (now (text .entry))) (now (text .entry)) (progressOf loading (now (parameters .entry)) (now (registers .entry)) (now (variables .entry))) ⌝ }
-    ensures ready { λ r. ⌜ Ready (progressOf r (now (parameters .entry)) (now (registers .exit)) (now (variables .exit))) (now (reads .exit)) (now (writes .exit)) ⌝ }
+    ensures noted { λ r. ⌜ Noted (now (text .entry)) (progressOf r (now (parameters .entry)) (now (registers .exit)) (now (variables .exit))) (now (reads .exit)) (now (writes .exit)) (now (known .exit)) ⌝ }
 {
-    let from = loading.step;
-    let open = syntax::fixed_after(text, OPEN_BRACE, from);
-    let inside = moved(loading, open);
+    let inside = past(text, loading, OPEN_BRACE);
     let one = declaration_next(
         text,
         inside,
@@ -238,9 +326,17 @@ pub fn declarations_of(
         variables,
         reads,
         writes,
+        known,
     );
-    let all = more_declarations(text, one, parameters, registers, variables, reads, writes);
-    let after = all.step;
-    let close = syntax::fixed_after(text, CLOSE_BRACE, after);
-    moved(all, close)
+    let all = more_declarations(
+        text,
+        one,
+        parameters,
+        registers,
+        variables,
+        reads,
+        writes,
+        known,
+    );
+    past(text, all, CLOSE_BRACE)
 }

@@ -3,6 +3,7 @@ use crate::declarations::declarations_of;
 use crate::heading::Loading;
 use crate::heading::moved;
 use crate::heading::parameters_of;
+use crate::known::mark_heading;
 use rules::Fault;
 use rules::Judging;
 use rules::fault;
@@ -104,6 +105,8 @@ pub fn judge_text(
 {
     let start = at_start();
     let headed = parameters_of(text, start, parameters, registers, variables);
+    let mut known = [0u8; 4096];
+    mark_heading(text, headed.judging, parameters, &mut known);
     let all = declarations_of(
         text,
         headed,
@@ -112,6 +115,7 @@ pub fn judge_text(
         variables,
         reads,
         writes,
+        &mut known,
     );
     let after = all.step;
     let end = syntax::fixed_after(text, END, after);

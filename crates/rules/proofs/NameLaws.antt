@@ -8,7 +8,7 @@ use mathlib.Core.Bool.{Bool, true, false, _&&_}
 use mathlib.Core.List.{List, [], _∷_}
 use lib.Dec.{eqb, ltb, leb}
 use lib.ListN.{length, getD, take, drop, length-drop, drop-of-length-le}
-use lib.Seq.{drop-cons, take-all, take-length, drop-length}
+use lib.Seq.{drop-cons, take-all, take-length, drop-length, getD-drop, getD-take}
 use borrow.Author.Tests.{eq-eqb, ne-eqb, lt-ltb, le-ltb, eqb-true, leb-true, leb-false, ltb-true}
 use Rattle.token.specs.Bytes.{begins}
 use Rattle.tables.specs.Every.{firstOf, Word}
@@ -16,7 +16,8 @@ use Rattle.tables.specs.Tables.{countOf}
 use Rattle.tables.proofs.Laws.{first-found}
 use Rattle.rules.specs.declared.names.Found.the-variants.{At, Nothing}
 use Rattle.rules.specs.Names.{standsAt, isNamed, heldOf, Held, foundBelow, foundIn, indexOf}
-use Rattle.logic.proofs.Tests.{and-right}
+use Rattle.logic.proofs.Tests.{and-left, and-right}
+use Rattle.token.proofs.Lexemes.{begins-take}
 
 module _ (name text : List ℕ) (k : ℕ) where
   pub begins-end : length name ≤ k → begins (drop k name) (drop k text) ≡ true
@@ -120,3 +121,36 @@ index-small text table stride name h =
         let m : heldOf stride table ≤ countOf table = min-le-left (countOf table) ((length table - 1) / stride) in
         rw e (omega arith)
     go false e = rw e (omega arith)
+
+-- what a name that an entry records agrees in: its length, that it is not empty, and its last byte
+pub record EndsAlike (text table : List ℕ) (at : ℕ) (name : List ℕ) : Type 0 where
+  pub long : getD table (at + 1) 0 ≡ length name
+  pub some : 0 < length name
+  pub inside : getD table at 0 + (length name - 1) < length text
+  pub last : getD text (getD table at 0 + (length name - 1)) 0 ≡ getD name (length name - 1) 0
+
+named-ends : (text table : List ℕ) (at : ℕ) (name : List ℕ) → isNamed text table at name ≡ true → EndsAlike text table at name
+unfolding isNamed standsAt
+named-ends text table at name e =
+    let place = getD table at 0 in
+    let n = length name in
+    let front = and-left (ltb 0 n && eqb (getD table (at + 1) 0) n) (begins name (drop place text)) e in
+    let some : 0 < n = ltb-true 0 n (and-left (ltb 0 n) (eqb (getD table (at + 1) 0) n) front) in
+    let taken = begins-take name (drop place text) (and-right (ltb 0 n && eqb (getD table (at + 1) 0) n) (begins name (drop place text)) e) in
+    let rest = length-drop place text in
+    record {
+      long = eqb-true (getD table (at + 1) 0) n (and-right (ltb 0 n) (eqb (getD table (at + 1) 0) n) front);
+      some = some;
+      inside = omega (arith, some, taken .1, rest);
+      last =
+          sym (getD-drop place text (n - 1) 0)
+          ∙ sym (getD-take n (drop place text) (n - 1) 0 (omega (arith, some)))
+          ∙ ap (λ (l : List ℕ). getD l (n - 1) 0) (taken .0);
+    }
+
+pub unnamed : (text table : List ℕ) (at : ℕ) (name : List ℕ) → (EndsAlike text table at name → ⊥) → isNamed text table at name ≡ false
+unnamed text table at name unlike = go (isNamed text table at name) refl
+  where
+    go : (b : Bool) → isNamed text table at name ≡ b → isNamed text table at name ≡ false
+    go true e = absurd (unlike (named-ends text table at name e))
+    go false e = e

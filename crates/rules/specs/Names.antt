@@ -71,3 +71,7 @@ isDeclared text s name =
 -- 6, at the declared name
 unfoldable pub declaredBefore : List ℕ → State → ℕ → ℕ → Fault
 declaredBefore text s place extent = faultIf (isDeclared text s (nameOf text place extent)) 6 place
+
+-- a name that is called fresh is declared by none
+abbrev pub Fresh : Bool → List ℕ → State → ℕ → ℕ → Type 0
+Fresh fresh text s place extent = fresh ≡ true → isDeclared text s (nameOf text place extent) ≡ false

@@ -1,5 +1,5 @@
 -- Judging a variable: rules 6, 7 and 11 to 15 in the order of document 01, and the entry that it gets.
-use Prim.Native.Nat.{ℕ, _+_, min}
+use Prim.Native.Nat.{ℕ, _+_, _≤_, min}
 use mathlib.Core.Path.{_≡_}
 use mathlib.Core.Bool.{Bool, _&&_, _||_, not, cond}
 use mathlib.Core.List.{List, [], _∷_}
@@ -17,7 +17,7 @@ use Rattle.rules.specs.Fault.{faultIf, orElse}
 use Rattle.rules.specs.Words.{wordOf, written}
 use Rattle.rules.specs.State.{State, unlessBroken, withVariables}
 use Rattle.rules.specs.Modifiers.{atMostOne}
-use Rattle.rules.specs.Names.{declaredBefore}
+use Rattle.rules.specs.Names.{declaredBefore, Fresh}
 use Rattle.rules.specs.Lists.{unknownIn, piecesOf, listFor, partWords}
 
 -- ── the entry ──
@@ -103,6 +103,14 @@ module _ (text : List ℕ) (s : State) (it : VariableRead) where
   -- 6, 7 and 11 by the lists, then 11 to 15
   unfoldable pub judgeVariable : State
   judgeVariable = unlessBroken s earlyFault addedVariable
+
+-- ── what the code asks for ──
+
+-- a variable's lists are short, and its name is declared by none if it is called fresh
+pub record Asked (fresh : Bool) (text : List ℕ) (s : State) (d : Variable) : Type 0 where
+  pub fresh-name : Fresh fresh text s (d .place) (d .length)
+  pub few : d .count ≤ 8
+  pub second-few : d .rest .count ≤ 8
 
 -- ── the maps that the code carries ──
 

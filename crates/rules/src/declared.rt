@@ -1,6 +1,6 @@
 // Rule 6: one name space for all.
 ghost use mathlib.Core.Path.{_≡_};
-ghost use Rattle.rules.specs.Names.{declaredBefore};
+ghost use Rattle.rules.specs.Names.{declaredBefore, Fresh};
 ghost use Rattle.rules.specs.State.{stateOf, faulted};
 use crate::fault;
 use crate::fault::Fault;
@@ -24,7 +24,7 @@ pub fn with_fault(judging: Judging, fault: Fault) -> Judging
     }
 }
 
-// Rule 6, of a name that is declared at a place.
+// Rule 6, of a name that is declared at a place. There is nothing to search for where the caller knows that it is fresh.
 pub fn declared_before(
     text: &[u8],
     judging: Judging,
@@ -33,9 +33,14 @@ pub fn declared_before(
     variables: &[u32],
     place: usize,
     extent: usize,
+    fresh: bool,
 ) -> Fault
+    requires { ⌜ Fresh fresh (now text) (stateOf judging (now parameters) (now registers) (now variables)) place extent ⌝ }
     ensures { λ r. ⌜ r ≡ declaredBefore (now (text .entry)) (stateOf judging (now (parameters .entry)) (now (registers .entry)) (now (variables .entry))) place extent ⌝ }
 {
+    if fresh {
+        return fault::no_fault();
+    }
     let name = names::name_of(text, place, extent);
     let device = names::stands_at(text, judging.place, judging.extent, name);
     let parameter = names::is_nothing(names::find(text, parameters, 36, name));

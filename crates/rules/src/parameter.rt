@@ -60,6 +60,7 @@ pub fn judge_parameter(
         variables,
         place,
         parameter.length,
+        false,
     );
     if fault::is_fault(six) {
         return with_fault(judging, six);

@@ -21,6 +21,7 @@ ghost use mathlib.Core.Path.{_≡_};
 ghost use Prim.Native.Nat.{_<_, _^_};
 ghost use Rattle.expression.specs.declared.Worth.the-variants.{Good};
 ghost use Rattle.rules.specs.State.{stateOf, unlessStopped};
+ghost use Rattle.rules.specs.Names.{Fresh};
 ghost use Rattle.rules.specs.Words.{appended};
 ghost use Rattle.rules.specs.Register.{isNatural, naturalOf, hasPart, masksKept, portOf, partMask, partEntry, portFound, unknownPort, badOffset, registerWritten, partWords, registerEntry, judgeRegister};
 
@@ -102,7 +103,9 @@ fn register_written(
     registers: &[u32],
     variables: &[u32],
     register: Register,
+    fresh: bool,
 ) -> Fault
+    requires { ⌜ Fresh fresh (now text) (stateOf judging (now parameters) (now registers) (now variables)) (register .place) (register .length) ⌝ }
     ensures { λ r. ⌜ r ≡ registerWritten (now (text .entry)) (stateOf judging (now (parameters .entry)) (now (registers .entry)) (now (variables .entry))) register ⌝ }
 {
     let place = register.place;
@@ -116,6 +119,7 @@ fn register_written(
         variables,
         place,
         register.length,
+        fresh,
     );
     let seven = unknown_port(text, parameters, first);
     let also_seven = fault::only(register.two, unknown_port(text, parameters, second));
@@ -208,14 +212,24 @@ pub fn judge_register(
     registers: &mut [u32],
     variables: &[u32],
     register: Register,
+    fresh: bool,
 ) -> Judging
+    requires { ⌜ Fresh fresh (now text) (stateOf judging (now parameters) (now registers) (now variables)) (register .place) (register .length) ⌝ }
     ensures { λ r. ⌜ stateOf r (now (parameters .entry)) (now (registers .exit)) (now (variables .entry)) ≡ unlessStopped (stateOf judging (now (parameters .entry)) (now (registers .entry)) (now (variables .entry))) (judgeRegister (now (text .entry)) (stateOf judging (now (parameters .entry)) (now (registers .entry)) (now (variables .entry))) register) ⌝ }
 {
     let so_far = judging.fault;
     if fault::is_fault(so_far) {
         return judging;
     }
-    let written = register_written(text, judging, parameters, registers, variables, register);
+    let written = register_written(
+        text,
+        judging,
+        parameters,
+        registers,
+        variables,
+        register,
+        fresh,
+    );
     if fault::is_fault(written) {
         return with_fault(judging, written);
     }

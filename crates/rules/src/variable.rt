@@ -9,7 +9,7 @@ ghost use Rattle.tables.specs.Rules.{variableFault, variableShape};
 ghost use Rattle.tables.specs.Scan.{Mapped};
 ghost use Rattle.rules.specs.Words.{written};
 ghost use Rattle.rules.specs.State.{stateOf};
-ghost use Rattle.rules.specs.Variable.{triggers, headWords, withVariable, badBehaviours, lowest, nameFault, firstPieces, secondPieces, earlyOf, readOf, judgeVariable, MappedUnless};
+ghost use Rattle.rules.specs.Variable.{triggers, headWords, withVariable, badBehaviours, lowest, nameFault, firstPieces, secondPieces, earlyOf, readOf, judgeVariable, Asked, MappedUnless};
 use crate::declared::Judging;
 use crate::declared::declared_before;
 use crate::declared::with_fault;
@@ -188,11 +188,11 @@ pub fn name_fault(
     variable: Variable,
     first: &[usize],
     second: &[usize],
+    fresh: bool,
     firsts: &mut [u32],
     seconds: &mut [u32],
 ) -> Fault
-    requires { ⌜ variable .count ≤ 8 ⌝ }
-    requires { ⌜ variable .rest .count ≤ 8 ⌝ }
+    requires { ⌜ Asked fresh (now text) (stateOf judging (now parameters) (now registers) (now variables)) variable ⌝ }
     requires { ⌜ now firsts ≡ replicate 24 0 ⌝ }
     requires { ⌜ now seconds ≡ replicate 24 0 ⌝ }
     ensures named { λ r. ⌜ r ≡ nameFault (now (text .entry)) (stateOf judging (now (parameters .entry)) (now (registers .entry)) (now (variables .entry))) (readOf variable (now (first .entry)) (now (second .entry))) ⌝ }
@@ -207,6 +207,7 @@ pub fn name_fault(
         variables,
         variable.place,
         variable.length,
+        fresh,
     );
     let unknown = resolve(text, registers, first, variable.count, firsts);
     let later = resolve(text, registers, second, variable.rest.count, seconds);
@@ -223,9 +224,9 @@ pub fn early_of(
     variable: Variable,
     first: &[usize],
     second: &[usize],
+    fresh: bool,
 ) -> Early
-    requires { ⌜ variable .count ≤ 8 ⌝ }
-    requires { ⌜ variable .rest .count ≤ 8 ⌝ }
+    requires { ⌜ Asked fresh (now text) (stateOf judging (now parameters) (now registers) (now variables)) variable ⌝ }
     ensures { λ r. ⌜ r ≡ earlyOf (now (text .entry)) (stateOf judging (now (parameters .entry)) (now (registers .entry)) (now (variables .entry))) (readOf variable (now (first .entry)) (now (second .entry))) ⌝ }
 {
     let mut firsts = [0u32; 24];
@@ -239,15 +240,15 @@ pub fn early_of(
         variable,
         first,
         second,
+        fresh,
         &mut firsts,
         &mut seconds,
     );
     let read = list_for(registers, variable, &firsts, 0);
     let write = list_for(registers, variable, &firsts, 1);
     let unpaired = fault_if((read == 0) & (write == 0), 11, variable.place);
-    let fault = or_else(names, unpaired);
     Early {
-        fault,
+        fault: or_else(names, unpaired),
         read,
         write,
         firsts,
@@ -265,13 +266,13 @@ pub fn judge_variable(
     variable: Variable,
     first: &[usize],
     second: &[usize],
+    fresh: bool,
     reads: &mut [u8],
     writes: &mut [u8],
 ) -> Judging
+    requires { ⌜ Asked fresh (now text) (stateOf judging (now parameters) (now registers) (now variables)) variable ⌝ }
     requires { ⌜ countOf (now registers) ≤ 64 ⌝ }
     requires { ⌜ countOf (now variables) < 2 ^ 15 ⌝ }
-    requires { ⌜ variable .count ≤ 8 ⌝ }
-    requires { ⌜ variable .rest .count ≤ 8 ⌝ }
     requires { ⌜ every (countOf (now variables)) (variableShape (now variables)) ≡ true ⌝ }
     requires { ⌜ Mapped (now variables) (countOf (now variables)) (now reads) (now writes) ⌝ }
     ensures judged { λ r. ⌜ stateOf r (now (parameters .entry)) (now (registers .entry)) (now (variables .exit)) ≡ judgeVariable (now (text .entry)) (stateOf judging (now (parameters .entry)) (now (registers .entry)) (now (variables .entry))) (readOf variable (now (first .entry)) (now (second .entry))) ⌝ }
@@ -286,6 +287,7 @@ pub fn judge_variable(
         variable,
         first,
         second,
+        fresh,
     );
     let broken = early.fault;
     if broken.number != 0 {

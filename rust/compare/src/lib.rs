@@ -1,6 +1,8 @@
 //! The proved implementation, linked from its archive, and what holds it against the second one.
 
 pub mod both;
+pub mod plot;
 pub mod proved;
 pub mod seen;
 pub mod station;
+pub mod texts;

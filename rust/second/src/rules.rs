@@ -12,7 +12,7 @@ use crate::description::{
 use crate::load::Refusal;
 use crate::syntax::{
     Attribute, ListText, MaskText, ParameterText, PieceText, PortText, RegisterText, TypeText,
-    VariableText, REGISTERS,
+    VariableText, PARAMETERS, REGISTERS, VARIABLES,
 };
 
 /// What a name was declared as, with its number among those of its kind.
@@ -71,34 +71,28 @@ impl<'t> Judge<'t> {
     pub fn new(text: &'t [u8]) -> Self {
         Judge {
             text,
-            names: HashMap::new(),
-            places: HashSet::new(),
+            names: HashMap::with_capacity(1 + PARAMETERS + REGISTERS + VARIABLES),
+            places: HashSet::with_capacity(2 * REGISTERS),
             held: [[Held::default(); REGISTERS]; 2],
             description: Description::default(),
         }
     }
 
     /// Rule 6.
-    fn undeclared(&self, name: Name) -> Judged<()> {
-        if self.names.contains_key(name.of(self.text)) {
-            return refused(6, name);
+    fn declare(&mut self, name: Name, entity: Entity) -> Judged<()> {
+        match self.names.insert(name.of(self.text), entity) {
+            Some(_) => refused(6, name),
+            None => Ok(()),
         }
-        Ok(())
-    }
-
-    fn declare(&mut self, name: Name, entity: Entity) {
-        self.names.insert(name.of(self.text), entity);
     }
 
     pub fn device(&mut self, name: Name) -> Judged<()> {
-        self.undeclared(name)?;
-        self.declare(name, Entity::Device);
-        Ok(())
+        self.declare(name, Entity::Device)
     }
 
     pub fn parameter(&mut self, parameter: ParameterText) -> Judged<()> {
         let name = parameter.name;
-        self.undeclared(name)?;
+        self.declare(name, Entity::Parameter(self.description.parameters.len()))?;
         let ranges = match parameter.ranges {
             None => vec![OffsetRange { low: 0, high: 0 }],
             Some(ranges) => ranges
@@ -118,7 +112,6 @@ impl<'t> Judge<'t> {
         if parameter.width != 8 {
             return refused(12, name);
         }
-        self.declare(name, Entity::Parameter(self.description.parameters.len()));
         self.description.parameters.push(Parameter {
             name,
             width: parameter.width,
@@ -129,7 +122,7 @@ impl<'t> Judge<'t> {
 
     pub fn register(&mut self, register: RegisterText) -> Judged<()> {
         let name = register.name;
-        self.undeclared(name)?;
+        self.declare(name, Entity::Register(self.description.registers.len()))?;
 
         let first = self.port_parameter(&register.first)?;
         let second = match &register.second {
@@ -187,7 +180,6 @@ impl<'t> Judge<'t> {
                 self.places.insert((part, port.parameter, port.offset));
             }
         }
-        self.declare(name, Entity::Register(self.description.registers.len()));
         self.description.registers.push(judged);
         Ok(())
     }
@@ -216,7 +208,7 @@ impl<'t> Judge<'t> {
 
     pub fn variable(&mut self, variable: VariableText) -> Judged<()> {
         let name = variable.name;
-        self.undeclared(name)?;
+        self.declare(name, Entity::Variable)?;
 
         let first = self.list_pieces(&variable.first)?;
         let second = match &variable.second {
@@ -274,7 +266,6 @@ impl<'t> Judge<'t> {
                 held.trigger |= trigger;
             }
         }
-        self.declare(name, Entity::Variable);
         let bits = |part: Option<Vec<Piece>>, trigger| part.map(|pieces| Bits { trigger, pieces });
         self.description.variables.push(Variable {
             name,

@@ -1,18 +1,21 @@
-//! Times of loading, proved beside second, and of station calls on the largest tables. Each figure is
+//! Times of loading, proved beside second, and of station calls on small tables and on the largest. Each figure is
 //! the best of many rounds, in microseconds. Both implementations load into tables that hold the
 //! tables of the round before; nothing is allocated by the caller between rounds.
 //!
 //!     cargo run --offline --release -p compare --bin time
+//!     cargo run --offline --release -p compare --bin time plot > ../docs/times.svg
 
 use std::hint::black_box;
 use std::time::Instant;
 
 use compare::both::lent;
-use compare::proved;
+use compare::plot::{self, Line};
+use compare::{proved, texts};
 use desfanuk::raw::{self, ANSWER_WORDS, OPERATION_WORDS};
-use second::generate::{valid, Random, TableSet};
-use second::{Loaded, PARAMETER_WORDS, REGISTER_WORDS, TEXT_BYTES, VARIABLE_WORDS};
+use second::generate::TableSet;
+use second::{Loaded, PARAMETER_WORDS, REGISTER_WORDS, VARIABLE_WORDS};
 
+const NE2000: &[u8] = include_bytes!("../../../../boards/ne2000.devil");
 const ROUNDS: usize = 400;
 /// Calls in one measurement of the station.
 const CALLS: usize = 20;
@@ -36,46 +39,8 @@ fn empty() -> TableSet {
     }
 }
 
-/// The generated text whose length is nearest to this one.
-fn text_near(random: &mut Random, length: usize) -> Vec<u8> {
-    (0..3000)
-        .map(|_| valid(random))
-        .min_by_key(|text| text.len().abs_diff(length))
-        .expect("some text")
-}
-
-/// 64 registers, and 128 variables of four bits each. Names start with this.
-fn largest(stem: &str) -> Vec<u8> {
-    let mut text = "device d(b:bit[8] port@{0..63}){".to_string();
-    for r in 0..64 {
-        text += &format!("register {stem}r{r}=b@{r}:bit[8];");
-    }
-    for r in 0..64 {
-        for (name, bits) in [('h', "7..4"), ('l', "3..0")] {
-            text += &format!("variable {stem}{name}{r}={stem}r{r}[{bits}]:int(4);");
-        }
-    }
-    text += "}";
-    text.into_bytes()
-}
-
-/// The same with the longest names that leave it within the longest text.
-fn largest_named() -> Vec<u8> {
-    (1..64)
-        .map(|length| largest(&"n".repeat(length)))
-        .take_while(|text| text.len() <= TEXT_BYTES)
-        .last()
-        .expect("short names fit")
-}
-
-/// Four registers, and one variable that takes them all.
-fn small() -> Vec<u8> {
-    b"device d(b:bit[8] port@{0..3}){register p=b:bit[8];register q=b@1:bit[8];\
-        register r=b@2:bit[8];register s=b@3:bit[8];variable v=p#q#r#s:int(32);}"
-        .to_vec()
-}
-
-fn load_row(name: &str, text: &[u8]) {
+/// The best times of loading a text, proved and second.
+fn loads(text: &[u8]) -> (f64, f64) {
     let mut set = empty();
     let proved_time = best(|| {
         let (p, r, v) = (&mut set.parameters, &mut set.registers, &mut set.variables);
@@ -85,6 +50,11 @@ fn load_row(name: &str, text: &[u8]) {
         let (p, r, v) = (&mut set.parameters, &mut set.registers, &mut set.variables);
         black_box(second::load_into(black_box(text), p, r, v));
     });
+    (proved_time, second_time)
+}
+
+fn load_row(name: &str, text: &[u8]) {
+    let (proved_time, second_time) = loads(text);
     println!(
         "| {name} | {} | {proved_time:.1} | {second_time:.1} | {:.2} |",
         text.len(),
@@ -156,21 +126,55 @@ fn station_row(name: &str, text: &[u8]) {
     );
 }
 
-fn main() {
-    let mut random = Random::new(601);
-    let about_1000 = text_near(&mut random, 1000);
-    let mut filled = largest("");
-    filled.resize(TEXT_BYTES, b' ');
+fn rows() {
     println!("| loading | bytes | proved | second | ratio |");
     println!("|---|---|---|---|---|");
-    load_row("4 registers, 1 variable", &small());
-    load_row("generated, about 1,000 bytes", &about_1000);
-    load_row("64 registers, 128 variables", &largest(""));
-    load_row("the same, filled with blanks", &filled);
-    load_row("the same, with long names", &largest_named());
+    load_row("4 registers, 1 variable", &texts::small());
+    load_row("generated, about 1,000 bytes", &texts::near(1000));
+    load_row("boards/ne2000.devil", NE2000);
+    load_row("64 registers, 128 variables", &texts::largest());
+    let blanks = texts::filled(texts::largest(), false);
+    load_row("the same, filled with blanks", &blanks);
+    load_row("the same, with long names", &texts::begin_alike(64));
+    let middle = texts::differ_in_the_middle();
+    load_row("the same, names that differ in the middle only", &middle);
+    let limit = texts::filled(middle, true);
+    load_row("that at the limit, by a comment", &limit);
     println!();
     println!("| station call | registers | variables | begin_write | confirm | of which the test of tables (20) |");
     println!("|---|---|---|---|---|---|");
-    station_row("small tables", &small());
-    station_row("largest tables", &largest(""));
+    station_row("small tables", &texts::small());
+    station_row("largest tables", &texts::largest());
+}
+
+/// How the time of loading grows with the text.
+fn growth() -> String {
+    let texts = texts::growing();
+    let times: Vec<_> = texts.iter().map(|text| loads(text)).collect();
+    let line = |name, colour, of: fn(&(f64, f64)) -> f64| Line {
+        name,
+        colour,
+        points: texts
+            .iter()
+            .zip(&times)
+            .map(|(text, time)| (text.len() as f64, of(time)))
+            .collect(),
+    };
+    plot::svg(
+        "Loading, by the length of the text",
+        "bytes",
+        "microseconds",
+        &[
+            line("ordinary Rust (rust/second)", "#c33", |time| time.1),
+            line("proved", "#06c", |time| time.0),
+        ],
+    )
+}
+
+fn main() {
+    match std::env::args().nth(1).as_deref() {
+        None => rows(),
+        Some("plot") => print!("{}", growth()),
+        Some(word) => panic!("{word}: plot, or nothing"),
+    }
 }

@@ -11,7 +11,8 @@ look-requires : tie.Need-look-requires
 look-requires c κs = search needs
 
 register-next-requires : tie.Need-register-next-requires
-register-next-requires c κs = search needs
+unfolding progressOf
+register-next-requires c κs = c .before .before .before .before .before .before .before .before .before .before .before .before .before .pre .names
 
 same-length : tie.Need-same-length
 same-length c = search needs
@@ -19,15 +20,15 @@ same-length c = search needs
 same-length-2 : tie.Need-same-length-2
 same-length-2 c = search needs
 
-returns : tie.Need-returns
-unfolding declarationWith progressOf
-returns c = (rw (declarationWith, ← c .before .before .before .before .before .before .before .look .ensures, eq-eqb _ _ (c .before .before .before .before .before .if1 .taken)) (c .before .before .register-next .ensures), rw (c .before .before .register-next .ensures) (ready-register _ _ (c .before .before .before .before .before .before .before .before .before .before .before .before .before .before .pre)))
-
-variable-next-requires : tie.Need-variable-next-requires
-variable-next-requires c κs = c .before .before .before .before .before .before .before .before .before .before .before .before .before .pre
-
 same-length-3 : tie.Need-same-length-3
 same-length-3 c = search needs
+
+returns : tie.Need-returns
+unfolding declarationWith progressOf
+returns c = (rw (declarationWith, ← c .before .before .before .before .before .before .before .before .before .before .look .ensures, eq-eqb _ _ (c .before .before .before .before .before .before .before .before .if1 .taken)) (c .before .before .before .before .register-next .ensures .0), record { ready = rw (c .before .before .before .before .register-next .ensures .0) (ready-register _ _ (c .before .before .before .before .before .before .before .before .before .before .before .before .before .before .before .before .before .before .pre .ready)); names = c .before .before .before .before .register-next .ensures .1 })
+
+variable-next-requires : tie.Need-variable-next-requires
+variable-next-requires c κs = c .before .before .before .before .before .before .before .before .before .before .before .before .before .before .before .pre
 
 same-length-4 : tie.Need-same-length-4
 same-length-4 c = search needs
@@ -38,22 +39,15 @@ same-length-5 c = search needs
 same-length-6 : tie.Need-same-length-6
 same-length-6 c = search needs
 
+same-length-7 : tie.Need-same-length-7
+same-length-7 c = search needs
+
+same-length-8 : tie.Need-same-length-8
+same-length-8 c = search needs
+
 returns-2 : tie.Need-returns-2
 unfolding declarationWith progressOf
-returns-2 c = (rw (declarationWith, ← c .before .before .before .before .before .before .before .before .before .before .before .before .before .look .ensures, ne-eqb _ _ (c .before .before .before .before .before .before .before .before .before .before .before .if1 .left)) (c .before .before .before .before .before .before .variable-next .ensures .0), c .before .before .before .before .before .before .variable-next .ensures .1)
+returns-2 c = (rw (declarationWith, ← c .before .before .before .before .before .before .before .before .before .before .before .before .before .before .before .before .look .ensures, ne-eqb _ _ (c .before .before .before .before .before .before .before .before .before .before .before .before .before .before .if1 .left)) (c .before .before .before .before .before .before .before .before .variable-next .ensures .0), c .before .before .before .before .before .before .before .before .variable-next .ensures .1)
 
 pub declaration-next-spec : {M : Type 1} → statement M
-declaration-next-spec =
-    tie.close
-    (tie.spec
-    look-requires
-    register-next-requires
-    same-length
-    same-length-2
-    returns
-    variable-next-requires
-    same-length-3
-    same-length-4
-    same-length-5
-    same-length-6
-    returns-2)
+declaration-next-spec = tie.close (tie.spec look-requires register-next-requires same-length same-length-2 same-length-3 returns variable-next-requires same-length-4 same-length-5 same-length-6 same-length-7 same-length-8 returns-2)

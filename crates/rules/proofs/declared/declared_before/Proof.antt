@@ -1,10 +1,18 @@
 -- `rules::declared::declared_before` meets its contract.
 use mathlib.Core.Path.{_∙_}
+use Rattle.rules.specs.Fault.{faultIf}
 use Rattle.rules.specs.Names.{isDeclared, declaredBefore}
 use Rattle.rules.specs.State.{stateOf}
 use borrow.Author.Needs.{needs}
 use Rattle.rules.proofs.declared.declared_before.Statement.{statement}
 use Rattle.rules.proofs.declared.declared_before.Tie as tie
+
+no-fault-requires : tie.Need-no-fault-requires
+no-fault-requires c κs = search needs
+
+returns : tie.Need-returns
+unfolding declaredBefore faultIf
+returns c = rw (c .no-fault .ensures, c .before .before .before .before .before .before .pre (c .before .if1 .taken))
 
 name-of-requires : tie.Need-name-of-requires
 name-of-requires c κs = search needs
@@ -33,14 +41,16 @@ is-nothing-requires-3 c κs = search needs
 fault-if-requires : tie.Need-fault-if-requires
 fault-if-requires c κs = search needs
 
-returns : tie.Need-returns
+returns-2 : tie.Need-returns-2
 unfolding declaredBefore isDeclared stateOf
-returns c = c .fault-if .ensures ∙ rw (c .before .is-nothing3 .ensures, c .before .before .find3 .ensures, c .before .before .before .is-nothing2 .ensures, c .before .before .before .before .find2 .ensures, c .before .before .before .before .before .is-nothing .ensures, c .before .before .before .before .before .before .find .ensures, c .before .before .before .before .before .before .before .stands-at .ensures, c .before .before .before .before .before .before .before .before .name-of .ensures)
+returns-2 c = c .fault-if .ensures ∙ rw (c .before .is-nothing3 .ensures, c .before .before .find3 .ensures, c .before .before .before .is-nothing2 .ensures, c .before .before .before .before .find2 .ensures, c .before .before .before .before .before .is-nothing .ensures, c .before .before .before .before .before .before .find .ensures, c .before .before .before .before .before .before .before .stands-at .ensures, c .before .before .before .before .before .before .before .before .name-of .ensures)
 
 pub declared-before-spec : {M : Type 1} → statement M
 declared-before-spec =
     tie.close
     (tie.spec
+    no-fault-requires
+    returns
     name-of-requires
     stands-at-requires
     find-requires
@@ -50,4 +60,4 @@ declared-before-spec =
     find-requires-3
     is-nothing-requires-3
     fault-if-requires
-    returns)
+    returns-2)

@@ -22,17 +22,17 @@ held-requires c κs = search needs
 loop-holds : tie.Need-loop-holds Inv-loop μ-loop
 loop-holds c = (search needs, first-none _)
 
-mul-is-named : tie.Need-mul-is-named Inv-loop μ-loop
-mul-is-named c = omega (arith, strides (c .before .before .before .before .before .before .args .stride) (c .before .loop .i) (c .before .before .before .before .before .before .pre .1) (omega arith))
+mul-is-entry : tie.Need-mul-is-entry Inv-loop μ-loop
+mul-is-entry c = omega (arith, strides (c .before .before .before .before .before .before .args .stride) (c .before .loop .i) (c .before .before .before .before .before .before .pre .1) (omega arith))
 
-add-is-named : tie.Need-add-is-named Inv-loop μ-loop
-add-is-named c = omega (arith, strides (c .before .before .before .before .before .before .args .stride) (c .before .loop .i) (c .before .before .before .before .before .before .pre .1) (omega arith))
+add-is-entry : tie.Need-add-is-entry Inv-loop μ-loop
+add-is-entry c = omega (arith, strides (c .before .before .before .before .before .before .args .stride) (c .before .loop .i) (c .before .before .before .before .before .before .pre .1) (omega arith))
 
-is-named-requires : tie.Need-is-named-requires Inv-loop μ-loop
-is-named-requires c κs = omega (arith, strides (c .before .before .before .before .before .before .args .stride) (c .before .loop .i) (c .before .before .before .before .before .before .pre .1) (omega arith))
+is-entry-requires : tie.Need-is-entry-requires Inv-loop μ-loop
+is-entry-requires c κs = omega (arith, strides (c .before .before .before .before .before .before .args .stride) (c .before .loop .i) (c .before .before .before .before .before .before .pre .1) (omega arith))
 
 returns : tie.Need-returns Inv-loop μ-loop
-returns c = found-here _ _ _ _ (c .before .before .loop-test .taken) (c .before .before .before .before .held .ensures .is) (c .before .before .before .loop .inv .1) (c .before .is-named .ensures) (c .if1 .taken)
+returns c = found-here _ _ _ _ (c .before .before .loop-test .taken) (c .before .before .before .before .held .ensures .is) (c .before .before .before .loop .inv .1) (c .before .is-entry .ensures) (c .if1 .taken)
 
 add-i : tie.Need-add-i Inv-loop μ-loop
 add-i c = search needs
@@ -41,7 +41,7 @@ loop-less : tie.Need-loop-less Inv-loop μ-loop
 loop-less c = search needs
 
 loop-again : tie.Need-loop-again Inv-loop μ-loop
-loop-again c = (search needs, first-more _ _ (c .before .before .before .loop .inv .1) (sym (c .before .is-named .ensures) ∙ c .if1 .left))
+loop-again c = (search needs, first-more _ _ (c .before .before .before .loop .inv .1) (sym (c .before .is-entry .ensures) ∙ c .if1 .left))
 
 returns-2 : tie.Need-returns-2 Inv-loop μ-loop
 returns-2 c = found-none _ _ _ _ (c .before .loop .inv .0) (c .loop-test .left) (c .before .before .held .ensures .is) (c .before .loop .inv .1)
@@ -54,9 +54,9 @@ find-spec =
     μ-loop
     held-requires
     loop-holds
-    mul-is-named
-    add-is-named
-    is-named-requires
+    mul-is-entry
+    add-is-entry
+    is-entry-requires
     returns
     add-i
     loop-less

@@ -1,4 +1,5 @@
 -- `rules::parameter::judge_parameter` meets its contract.
+use mathlib.Core.Bool.{false≢true}
 use Rattle.rules.specs.Parameter.{judgeParameter}
 use Rattle.rules.proofs.JudgingLaws.{judged-stopped, judged-broken, judged-on, parameter-entered}
 use borrow.Author.Needs.{needs}
@@ -12,7 +13,7 @@ returns : tie.Need-returns
 returns c = judged-stopped _ _ _ _ (c .before .is-fault .ensures) _ (c .if1 .taken)
 
 declared-before-requires : tie.Need-declared-before-requires
-declared-before-requires c κs = search needs
+declared-before-requires c κs = λ e. absurd (false≢true e)
 
 is-fault-requires-2 : tie.Need-is-fault-requires-2
 is-fault-requires-2 c κs = search needs

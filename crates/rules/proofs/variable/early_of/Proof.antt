@@ -12,7 +12,7 @@ slice-aggregate-name-fault-2 : tie.Need-slice-aggregate-name-fault-2
 slice-aggregate-name-fault-2 c = search needs
 
 name-fault-requires : tie.Need-name-fault-requires
-name-fault-requires c κs = let p = c .before .before .before .before .before .before .before .before .pre in (p .0, (p .1, (refl, refl)))
+name-fault-requires c κs = let p = c .before .before .before .before .before .before .before .before .pre in (p, (refl, refl))
 
 slice-aggregate-list-for : tie.Need-slice-aggregate-list-for
 slice-aggregate-list-for c = search needs

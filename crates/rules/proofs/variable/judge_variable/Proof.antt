@@ -18,7 +18,7 @@ returns : tie.Need-returns
 returns c = (judged-early _ _ _ _ _ _ _ _ (c .before .before .before .before .early-of .ensures) (c .before .if1 .taken) (c .with-fault .ensures), λ e. absurd (c .before .if1 .taken (sym (faulted-number _ _ (c .with-fault .ensures)) ∙ e)))
 
 enter-requires : tie.Need-enter-requires
-enter-requires c κs = let p = c .before .before .before .before .before .before .before .before .before .before .before .before .before .before .before .before .pre in (p .0, (p .1 .0, p .1 .1 .1 .1))
+enter-requires c κs = let p = c .before .before .before .before .before .before .before .before .before .before .before .before .before .before .before .before .pre .1 in (p .0, (p .1 .0, p .1 .1))
 
 fault-if-requires : tie.Need-fault-if-requires
 fault-if-requires c κs = search needs

@@ -7,7 +7,7 @@ use Rattle.rules.proofs.variable.name_fault.Statement.{statement}
 use Rattle.rules.proofs.variable.name_fault.Tie as tie
 
 declared-before-requires : tie.Need-declared-before-requires
-declared-before-requires c κs = search needs
+declared-before-requires c κs = c .before .before .before .before .before .before .before .before .pre .0 .fresh-name
 
 resolve-requires : tie.Need-resolve-requires
 resolve-requires c κs = search needs
@@ -31,7 +31,7 @@ returns : tie.Need-returns
 unfolding nameFault stateOf readOf
 returns c = (
   rw (c .or-else2 .ensures, c .before .or-else .ensures, c .before .before .before .before .resolve2 .ensures .0, c .before .before .before .before .before .before .before .before .resolve .ensures .0, c .before .before .before .before .before .before .before .before .before .before .declared-before .ensures),
-  (pieces-from _ _ _ _ (c .before .before .before .before .before .before .before .before .resolve .ensures .1) (c .before .before .before .before .before .before .before .before .before .before .before .before .before .before .before .before .before .before .before .pre .1 .1 .0), pieces-from _ _ _ _ (c .before .before .before .before .resolve2 .ensures .1) (c .before .before .before .before .before .before .before .before .before .before .before .before .before .before .before .before .before .before .before .pre .1 .1 .1)),
+  (pieces-from _ _ _ _ (c .before .before .before .before .before .before .before .before .resolve .ensures .1) (c .before .before .before .before .before .before .before .before .before .before .before .before .before .before .before .before .before .before .before .pre .1 .0), pieces-from _ _ _ _ (c .before .before .before .before .resolve2 .ensures .1) (c .before .before .before .before .before .before .before .before .before .before .before .before .before .before .before .before .before .before .before .pre .1 .1)),
 )
 
 pub name-fault-spec : {M : Type 1} → statement M

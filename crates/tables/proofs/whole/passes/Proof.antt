@@ -28,12 +28,6 @@ enum-told-4 c = search needs
 parameter-fault-requires : tie.Need-parameter-fault-requires
 parameter-fault-requires c κs = search needs
 
-enum-told-5 : tie.Need-enum-told-5
-enum-told-5 c = search needs
-
-register-fault-requires : tie.Need-register-fault-requires
-register-fault-requires c κs = search needs
-
 returns : tie.Need-returns
 unfolding passesTest
 returns c = rw (c .before .enum-told .given .1) (c .parameter-shape .ensures)
@@ -50,10 +44,6 @@ returns-4 : tie.Need-returns-4
 unfolding passesTest
 returns-4 c = rw (c .before .enum-told4 .given .1, c .parameter-fault .ensures)
 
-returns-5 : tie.Need-returns-5
-unfolding passesTest
-returns-5 c = rw (c .before .enum-told5 .given .1, c .register-fault .ensures)
-
 pub passes-spec : {M : Type 1} → statement M
 passes-spec =
     tie.close
@@ -66,10 +56,7 @@ passes-spec =
     variable-shape-requires
     enum-told-4
     parameter-fault-requires
-    enum-told-5
-    register-fault-requires
     returns
     returns-2
     returns-3
-    returns-4
-    returns-5)
+    returns-4)
