@@ -1,7 +1,7 @@
 //! Runs of calls over a text: good ones, refused ones, out of order, and abandoned at every step.
 
 use super::Random;
-use crate::description::{Description, Kind, Part, Variable, PARTS};
+use crate::description::{Description, Part, Variable, PARTS};
 use crate::load::{load, Verdict};
 use crate::replay::{Call, Session};
 use crate::station::Operation;
@@ -96,21 +96,12 @@ fn read(random: &mut Random, description: &Description) -> Call {
     Call::Read(some_variable(random, description))
 }
 
-/// The least and the greatest value of a variable's type.
-fn bounds(variable: &Variable) -> (i64, i64) {
-    let size = 1i64 << variable.width;
-    match variable.kind {
-        Kind::Signed => (-size / 2, size / 2 - 1),
-        Kind::Int | Kind::Bool => (0, size - 1),
-    }
-}
-
 fn good_write(random: &mut Random, description: &Description) -> Call {
     let index = some_variable(random, description);
     let Some(variable) = description.variables.get(index) else {
         return Call::Write(index, 0);
     };
-    let (least, greatest) = bounds(variable);
+    let (least, greatest) = variable.bounds();
     let value = match random.below(6) {
         0 => least,
         1 => greatest,
@@ -121,7 +112,10 @@ fn good_write(random: &mut Random, description: &Description) -> Call {
 
 fn bad_write(random: &mut Random, description: &Description) -> Call {
     let index = some_variable(random, description);
-    let (least, greatest) = description.variables.get(index).map_or((0, 0), bounds);
+    let (least, greatest) = description
+        .variables
+        .get(index)
+        .map_or((0, 0), Variable::bounds);
     let value = match random.below(5) {
         0 => least - 1,
         1 => greatest + 1,
@@ -190,7 +184,7 @@ pub fn every_step(random: &mut Random, text: &[u8]) -> Vec<Call> {
     };
     let mut calls = vec![Call::Open(bytes(random))];
     for (index, variable) in description.variables.iter().enumerate() {
-        let (least, greatest) = bounds(variable);
+        let (least, greatest) = variable.bounds();
         for part in PARTS {
             let Some(bits) = variable.part(part) else {
                 continue;
