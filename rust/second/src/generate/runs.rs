@@ -59,9 +59,9 @@ fn next(
         };
     }
     match random.below(100) {
-        0..=34 => good_write(random, description),
-        35..=64 => read(random, description),
-        65..=71 => bad_write(random, description),
+        0..=32 => good_write(random, description),
+        33..=61 => read(random, description, session),
+        62..=71 => bad_write(random, description),
         72..=75 => Call::Confirm(random.byte()),
         76..=79 => Call::Abandon,
         80..=83 => open(random, description),
@@ -92,8 +92,15 @@ fn some_variable(random: &mut Random, description: &Description) -> usize {
     }
 }
 
-fn read(random: &mut Random, description: &Description) -> Call {
-    Call::Read(some_variable(random, description))
+/// Now and then a half-written variable, if there is one.
+fn read(random: &mut Random, description: &Description, session: &Session) -> Call {
+    let marked: Vec<usize> = (0..description.variables.len())
+        .filter(|variable| session.marks()[*variable] != 0)
+        .collect();
+    match marked.is_empty() || !random.one_in(6) {
+        true => Call::Read(some_variable(random, description)),
+        false => Call::Read(*random.pick(&marked)),
+    }
 }
 
 fn good_write(random: &mut Random, description: &Description) -> Call {
