@@ -45,6 +45,17 @@ extern "C" {
 #define DESFANUK_REGISTERS_WORDS 961
 #define DESFANUK_VARIABLES_WORDS 7553
 
+/*
+ * The words of the table of variables that tell the kind of variable v (0 `int`, 1 `signed int`,
+ * 2 `bool`) and its width in bits.
+ */
+#define DESFANUK_KIND_WORD(v) (59 * (v) + 3)
+#define DESFANUK_WIDTH_WORD(v) (59 * (v) + 4)
+
+/* The least and the greatest value of a type, as an int64_t. */
+#define DESFANUK_LEAST(kind, width) ((kind) == 1 ? -((int64_t)1 << ((width)-1)) : (int64_t)0)
+#define DESFANUK_GREATEST(kind, width) (((int64_t)1 << ((width) - ((kind) == 1 ? 1 : 0))) - 1)
+
 /* Words of the answer of desfanuk_load. */
 #define DESFANUK_VERDICT_WORDS 4
 
@@ -151,10 +162,12 @@ extern "C" {
 #define DESFANUK_REFUSED_NO_VARIABLE 25
 /* The variable has not that part. */
 #define DESFANUK_REFUSED_NO_PART 26
-/* The value is outside the variable's type. */
-#define DESFANUK_REFUSED_OUT_OF_RANGE 27
+/* The value is below the least of the variable's type: DESFANUK_LEAST. */
+#define DESFANUK_REFUSED_TOO_LOW 27
 /* The variable is half-written. */
 #define DESFANUK_REFUSED_HALF_WRITTEN 28
+/* The value is above the greatest of the variable's type: DESFANUK_GREATEST. */
+#define DESFANUK_REFUSED_TOO_HIGH 55
 
 /* ---- loading */
 
@@ -215,7 +228,10 @@ uint64_t desfanuk_begin_read(const uint32_t *parameters, size_t parameters_len,
                              size_t variable,
                              int64_t *answer, size_t answer_len);
 
-/* Begins the write of a value to a variable, by its index: offers the first access. */
+/*
+ * Begins the write of a value to a variable, by its index: offers the first access. A value that
+ * the variable's type does not have is refused: below the least by 27, above the greatest by 55.
+ */
 uint64_t desfanuk_begin_write(const uint32_t *parameters, size_t parameters_len,
                               const uint32_t *registers, size_t registers_len,
                               const uint32_t *variables, size_t variables_len,

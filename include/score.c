@@ -94,13 +94,30 @@ static void carry_out(void)
     }
 }
 
+/* Tells which way a value lies outside the score's type, and what the type has. */
+static void show_outside(size_t score, const char *which, int64_t value)
+{
+    uint32_t kind = variables[DESFANUK_KIND_WORD(score)];
+    uint32_t width = variables[DESFANUK_WIDTH_WORD(score)];
+    printf("  refused (%d): %ld is %s: the least is %ld, the greatest %ld\n", (int)answer[1],
+           (long)value, which, (long)DESFANUK_LEAST(kind, width),
+           (long)DESFANUK_GREATEST(kind, width));
+}
+
 static void write_score(size_t score, const char *title, int64_t value, int accesses)
 {
+    uint64_t refused;
     printf("%s\n", title);
     patience = accesses;
-    desfanuk_begin_write(TABLES, LENT(held), LENT(marks), LENT(operation), score, value,
-                         LENT(answer));
-    carry_out();
+    refused = desfanuk_begin_write(TABLES, LENT(held), LENT(marks), LENT(operation), score, value,
+                                   LENT(answer));
+    if (refused == DESFANUK_REFUSED_TOO_LOW) {
+        show_outside(score, "too low", value);
+    } else if (refused == DESFANUK_REFUSED_TOO_HIGH) {
+        show_outside(score, "too high", value);
+    } else {
+        carry_out();
+    }
 }
 
 static void read_score(size_t score, const char *title)
@@ -133,5 +150,7 @@ int main(int argc, char **argv)
     read_score((size_t)found, "Read the score: its registers hold 2997 now, which nobody gave.");
     write_score((size_t)found, "Write 3000 again.", 3000, 2);
     read_score((size_t)found, "Read it.");
+    write_score((size_t)found, "Write 5000.", 5000, 2);
+    write_score((size_t)found, "Write -1.", -1, 2);
     return 0;
 }

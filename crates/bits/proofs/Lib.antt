@@ -1,4 +1,5 @@
 pub mod BitLaws
 pub mod MaskLaws
 pub mod ValueLaws
+pub mod RangeLaws
 pub mod Signed

@@ -16,7 +16,7 @@ use Rattle.station.specs.declared.Operation.the-variants.{Idle}
 use Rattle.station.specs.declared.Answer.{Answer}
 use Rattle.station.specs.declared.Answer.the-variants.{Refused, Opened, Done}
 use Rattle.bits.specs.Bits.{bit, numberOf}
-use Rattle.bits.specs.Values.{inRange, encode, decode}
+use Rattle.bits.specs.Values.{isBelow, isAbove, inRange, encode, decode}
 use Rattle.station.specs.Calls.{State, stepsOf, unless, isLong, isUnderway, isRead, isGathered, isAllowed, ownBit, otherBit, settingsBit, settingsByte, writtenByte, gatheredBit, gather, opening}
 use Rattle.board.specs.Board.{World, Call, BeginRead, BeginWrite, Confirm, Abandon, put, answers, lastWhere, reached, after, opened, wholeRead, wholeWrite}
 use Rattle.board.specs.Demand.{Opening, worldAfter, writesOf, Work, EqualBoards}
@@ -166,7 +166,7 @@ left : List Call → List ℕ
 left calls = readBack scoring (worldAfter start calls .cells)
 
 boards-are : (left firstCalls ∷ left secondCalls ∷ []) ≡ (0x0A ∷ 0xBC ∷ 0x39 ∷ 0x7C ∷ 0x00 ∷ []) ∷ (0x0A ∷ 0xBD ∷ 0x39 ∷ 0x7C ∷ 0x00 ∷ []) ∷ []
-unfolding left run scoring listed writesOf after unless isLong isUnderway isRead isGathered isAllowed inRange encode decode variableCount registerCount registerWidth registerHas parameterOf offsetOf isDot isOne kindOf variableHas joined downFrom bitsOf size placeOf without mentions registersOf bit numberOf ownBit otherBit settingsBit settingsByte writtenByte gatheredBit gather put answers lastWhere reached
+unfolding left run scoring listed writesOf after unless isLong isUnderway isRead isGathered isAllowed isBelow isAbove inRange encode decode variableCount registerCount registerWidth registerHas parameterOf offsetOf isDot isOne kindOf variableHas joined downFrom bitsOf size placeOf without mentions registersOf bit numberOf ownBit otherBit settingsBit settingsByte writtenByte gatheredBit gather put answers lastWhere reached
 boards-are =
     ap₂ (λ (w u : World). readBack scoring (w .cells) ∷ readBack scoring (u .cells) ∷ []) (run-is firstCalls) (run-is secondCalls)
 
@@ -205,7 +205,7 @@ told-is =
     )
 
 ran-is : ran ≡ Done (pos 0x734) 2 ∷ Refused 28 ∷ Refused 28 ∷ Done (pos 12) 1 ∷ Done (pos 0x456) 2 ∷ []
-unfolding ran run scoring after unless isLong isUnderway isRead isGathered isAllowed inRange encode decode variableCount registerCount registerWidth registerHas parameterOf offsetOf isDot isOne kindOf variableHas joined downFrom bitsOf size placeOf without mentions registersOf bit numberOf ownBit otherBit settingsBit settingsByte writtenByte gatheredBit gather put answers lastWhere reached
+unfolding ran run scoring after unless isLong isUnderway isRead isGathered isAllowed isBelow isAbove inRange encode decode variableCount registerCount registerWidth registerHas parameterOf offsetOf isDot isOne kindOf variableHas joined downFrom bitsOf size placeOf without mentions registersOf bit numberOf ownBit otherBit settingsBit settingsByte writtenByte gatheredBit gather put answers lastWhere reached
 ran-is = refl
 
 -- ── power lost between the two registers of a score: what was 0x123 and was to be 0x456 reads as neither ──
@@ -217,7 +217,7 @@ abbrev lostPower : List ℕ
 lostPower = readBack scoring (leftBy scoring false (worldAfter start lostCalls))
 
 lost-is : lostPower ≡ 0x04 ∷ 0x23 ∷ 0x5C ∷ 0x7C ∷ 0x00 ∷ []
-unfolding run scoring listed after unless isLong isUnderway isRead isGathered isAllowed inRange encode decode variableCount registerCount registerWidth registerHas parameterOf offsetOf isDot isOne kindOf variableHas joined downFrom bitsOf size placeOf without mentions registersOf bit numberOf ownBit otherBit settingsBit settingsByte writtenByte gatheredBit gather put answers lastWhere reached
+unfolding run scoring listed after unless isLong isUnderway isRead isGathered isAllowed isBelow isAbove inRange encode decode variableCount registerCount registerWidth registerHas parameterOf offsetOf isDot isOne kindOf variableHas joined downFrom bitsOf size placeOf without mentions registersOf bit numberOf ownBit otherBit settingsBit settingsByte writtenByte gatheredBit gather put answers lastWhere reached
 lost-is = ap (λ (w : World). readBack scoring (leftBy scoring false w)) (run-is lostCalls)
 
 again-long : isLong scoring lent ≡ true
@@ -233,7 +233,7 @@ again =
     }
 
 neither : after sound scoring (wholeRead 0 (7 ∷ 7 ∷ [])) (worldAfter again []) .answer ≡ Done (pos 0x423) 2
-unfolding again scoring after unless isLong isUnderway isRead isGathered isAllowed inRange encode decode variableCount registerCount registerWidth registerHas parameterOf offsetOf isDot isOne kindOf variableHas joined downFrom bitsOf size placeOf without mentions registersOf bit numberOf ownBit otherBit settingsBit settingsByte writtenByte gatheredBit gather put answers lastWhere reached
+unfolding again scoring after unless isLong isUnderway isRead isGathered isAllowed isBelow isAbove inRange encode decode variableCount registerCount registerWidth registerHas parameterOf offsetOf isDot isOne kindOf variableHas joined downFrom bitsOf size placeOf without mentions registersOf bit numberOf ownBit otherBit settingsBit settingsByte writtenByte gatheredBit gather put answers lastWhere reached
 neither =
     ap (λ (w : World). w .answer) (after-passed scoring scoring-sound (wholeRead 0 (7 ∷ 7 ∷ [])) (opened sound scoring lostPower lent))
     ∙ ap (λ (w : World). after passed scoring (wholeRead 0 (7 ∷ 7 ∷ [])) w .answer) (opened-passed scoring scoring-sound lostPower lent)

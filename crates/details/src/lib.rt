@@ -5,5 +5,6 @@ pub mod expected;
 pub mod holders;
 pub mod judged;
 pub mod places;
+pub mod ranges;
 pub mod rows;
 pub mod search;

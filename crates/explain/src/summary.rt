@@ -1,4 +1,4 @@
-// The variables: type, bits and accesses of each part, and what is special about it.
+// The variables: type, range, bits and accesses of each part, and what is special about it.
 use crate::each::Shown;
 use crate::each::show_each;
 use crate::write::column;
@@ -14,6 +14,8 @@ use details::entries::variable_name;
 use details::entries::variable_volatile;
 use details::entries::variable_width;
 use details::holders::pulls_trigger;
+use details::ranges::depth_of;
+use details::ranges::greatest_of;
 use rules::words::choose;
 use tables::Part;
 
@@ -45,6 +47,36 @@ fn type_columns(variables: &[u32], v: u32) -> usize {
     }
 }
 
+// 0..4095, or -2048..2047: the least value and the greatest
+fn show_values(variables: &[u32], v: u32) {
+    let kind = variable_kind(variables, v);
+    let width = variable_width(variables, v);
+    if 0 < width {
+        if width <= 32 {
+            if kind == 1 {
+                write(b"-");
+            }
+            number(depth_of(kind, width));
+            write(b"..");
+            number(greatest_of(kind, width));
+        }
+    }
+}
+
+// How wide `show_values` writes: a decimal digit takes three bits and a third.
+fn values_columns(variables: &[u32], v: u32) -> usize {
+    let kind = variable_kind(variables, v);
+    let width = variable_width(variables, v);
+    if 32 < width {
+        return 0;
+    }
+    if kind == 1 {
+        2 * ((3 * width + 7) / 10) + 3
+    } else {
+        3 * width / 10 + 4
+    }
+}
+
 // `volatile` belongs to reading.
 fn show_attributes(variables: &[u32], v: u32, part: Part, volatile: bool) {
     let trigger = pulls_trigger(variables, part, v);
@@ -60,7 +92,7 @@ fn show_attributes(variables: &[u32], v: u32, part: Part, volatile: bool) {
 fn show_gap(variables: &[u32], v: u32, part: Part) {
     if 1 < piece_count(variables, v, part) {
         write(b"\n");
-        times(b" ", 37);
+        times(b" ", 53);
     } else {
         write(b" ");
     }
@@ -131,7 +163,7 @@ fn show_parts(text: &[u8], parameters: &[u32], registers: &[u32], variables: &[u
     }
     if variable_has(variables, v, Part::Write) {
         if read {
-            times(b" ", 32);
+            times(b" ", 48);
         }
         show_write(text, parameters, registers, variables, v);
     }
@@ -147,5 +179,7 @@ pub fn show_variable(
     column(variable_name(text, variables, v), 16);
     show_type(variables, v);
     fill(type_columns(variables, v), 16);
+    show_values(variables, v);
+    fill(values_columns(variables, v), 16);
     show_parts(text, parameters, registers, variables, v);
 }

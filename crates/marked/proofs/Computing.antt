@@ -2,7 +2,7 @@
 -- under `computing`. To unfold a name is to unfold what its own line names.
 -- Assumes nothing.
 use Rattle.bits.specs.Bits.{bit, numberOf}
-use Rattle.bits.specs.Values.{inRange, encode, decode}
+use Rattle.bits.specs.Values.{isBelow, isAbove, encode, decode}
 use Rattle.token.specs.Bytes.{same, begins, oneOf, within, firstTrue, runFrom}
 use Rattle.token.specs.Gap.{isBlank, gapFrom}
 use Rattle.token.specs.Number.{digitOf, isDigit, valueFrom, prefixed, digitsOf}
@@ -45,7 +45,7 @@ use Rattle.marked.specs.Marked.{deep, registersThen, many, marked, blank
 
 -- numbers as bits, and values
 unfoldable pub numbers : Unit {0}
-unfolding bit numberOf inRange encode decode
+unfolding bit numberOf isBelow isAbove encode decode
 numbers = tt
 
 -- tokens

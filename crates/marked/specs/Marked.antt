@@ -113,7 +113,7 @@ marked =
     ∷ loads (at-offset "4") (Refused 8 49)
     ∷ loads (at-offset "1-2") (Refused 8 49)
     ∷ loads (at-offset "7/0") (Refused 8 49)
-    ∷ runs masked (Accepted 1 1 1) (0 ∷ []) (wholeWrite 0 (pos 2) (any ∷ []) ++ BeginWrite 0 (pos 4) ∷ []) (writes 0 0xC0 ∷ Done (pos 2) 1 ∷ CallRefused 27 ∷ [])
+    ∷ runs masked (Accepted 1 1 1) (0 ∷ []) (wholeWrite 0 (pos 2) (any ∷ []) ++ BeginWrite 0 (pos 4) ∷ []) (writes 0 0xC0 ∷ Done (pos 2) 1 ∷ CallRefused 55 ∷ [])
     ∷ runs joint (Accepted 1 2 1) (0 ∷ 0 ∷ []) (wholeWrite 0 -2 (any ∷ any ∷ [])) (writes 0 0x0F ∷ writes 1 0x0E ∷ Done -2 2 ∷ [])
     ∷ runs joint (Accepted 1 2 1) (0xAF ∷ 0x5E ∷ []) (wholeRead 0 (any ∷ any ∷ [])) (reads 0 ∷ reads 1 ∷ Done -2 2 ∷ [])
     ∷ runs nibbles (Accepted 1 1 2) (0xA5 ∷ []) (wholeWrite 0 (pos 3) (any ∷ []) ++ wholeRead 1 (any ∷ [])) (writes 0 0xA3 ∷ Done (pos 3) 1 ∷ reads 0 ∷ Done (pos 10) 1 ∷ [])

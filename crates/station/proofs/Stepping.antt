@@ -27,6 +27,7 @@ use Rattle.station.specs.Answers.{refusalOf}
 use Rattle.station.specs.Steps.{Once, readPlan, writePlan, broughtFor, valueRead, answersOf, offersThenDone, GoesByPlan}
 use Rattle.bits.proofs.BitLaws.{bits-equal, bit-number, number-lt}
 use Rattle.bits.proofs.ValueLaws.{encode-lt, decode-encode}
+use Rattle.bits.proofs.RangeLaws.{neither}
 use Rattle.station.proofs.Cases.{among-take, getD-among}
 use Rattle.station.proofs.ByteLaws.{gather-here, gather-there}
 use Rattle.station.proofs.Registers.{mentioned, some-step}
@@ -243,11 +244,11 @@ module _ (t : Tables) (s : State) (v : ℕ) where
       unless-cases (λ o. refusalOf (o .answer) ≡ none → Answered (writePlan t s v z) (λ bytes. z) o) (writeTests sound t s v z) s _
       (λ n e. absurd (some≢none n e))
       (λ passed e bytes few.
-      let (is-sound, (is-long, (_, (_, (there, (has, (fits, _))))))) = passed in
+      let (is-sound, (is-long, (_, (_, (there, (has, (low, (high, _)))))))) = passed in
       let (ok, hk, hm) = stands t s is-sound is-long in
       let hv = ltb-true _ _ (not-false _ there) in
       let here = not-false _ has in
-      let in-range = not-false _ fits in
+      let in-range = neither (kindOf t v) (size t writing v) z low high in
       let x = encode (size t writing v) z in
       let count = length-map (registersOf t writing v) (λ (r : ℕ). accessAt t writing r (writtenByte t (keptOf s) v x r)) in
       writes-from t ok bytes (s .kept) (s .marks) (keptOf s) v 0 x hv here (encode-lt (kindOf t v) (size t writing v) z in-range) hk hm

@@ -12,7 +12,7 @@ use Rattle.station.specs.declared.Answer.{Answer}
 use Rattle.station.specs.declared.Answer.the-variants.{Refused, Opened, Offer as Offered, Done, Abandoned as Ended}
 use Rattle.station.specs.Calls.{State, Outcome, Test, openingTests, readTests, writeTests, endTests, isInHand, isAllowed}
 
--- 20 to 28 for a refusal, none for the other answers
+-- 20 to 28 or 55 for a refusal, none for the other answers
 abbrev pub refusalOf : Answer → Option ℕ
 refusalOf (Refused n) = some n
 refusalOf Opened = none
@@ -36,12 +36,12 @@ lowestOf (test ∷ tests) = cond (test .0) (some (test .1)) (lowestOf tests)
 abbrev pub numbersOf : List Test → List ℕ
 numbersOf tests = map (λ (test : Test). test .1) tests
 
--- "An opening can give 20 and 21; a begin 20 to 23 and 25 to 28; a confirm or abandon 20 to 22 and 24; 22 needs an operation in hand": they stand in
--- order of number, so the first that holds is the lowest
+-- "An opening can give 20 and 21; a begin 20 to 23 and 25 to 28; a confirm or abandon 20 to 22 and 24; 22 needs an operation in hand", and by 02 a begin
+-- can give 55: they stand in order of number, so the first that holds is the lowest
 pub record CanGive (sound : Tables → Bool) (t : Tables) (s : State) : Type 0 where
   pub an-opening : (power : List ℕ) → numbersOf (openingTests sound t power s) ≡ 20 ∷ 21 ∷ []
   pub a-read : (v : ℕ) → numbersOf (readTests sound t s v) ≡ 20 ∷ 21 ∷ 22 ∷ 23 ∷ 25 ∷ 26 ∷ 28 ∷ []
-  pub a-write : (v : ℕ) (z : ℤ) → numbersOf (writeTests sound t s v z) ≡ 20 ∷ 21 ∷ 22 ∷ 23 ∷ 25 ∷ 26 ∷ 27 ∷ []
+  pub a-write : (v : ℕ) (z : ℤ) → numbersOf (writeTests sound t s v z) ≡ 20 ∷ 21 ∷ 22 ∷ 23 ∷ 25 ∷ 26 ∷ 27 ∷ 55 ∷ []
   pub an-end : numbersOf (endTests sound t s) ≡ 20 ∷ 21 ∷ 22 ∷ 24 ∷ []
   pub idle-allowed : isInHand (s .operation) ≡ false → isAllowed t (s .operation) ≡ true
 

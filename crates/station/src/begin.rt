@@ -2,7 +2,7 @@
 ghost use mathlib.Core.Path.{_≡_};
 ghost use Prim.Native.Nat.{_<_};
 ghost use Rattle.station.specs.Standing.{tablesOf};
-ghost use Rattle.station.specs.Station.{beginFault};
+ghost use Rattle.station.specs.Station.{beginFault, outsideNumber};
 ghost use Rattle.tables.specs.View.{sound};
 ghost use Rattle.station.specs.Calls.{isInHand, beginRead, beginWrite};
 ghost use Rattle.station.specs.Promise.{lent, Meets};
@@ -65,6 +65,13 @@ fn begin_fault(
         return 26;
     }
     0
+}
+
+// The number of a value outside its type: below the least, or above the greatest. As 0 lies in every type, the sign tells which.
+fn outside_number(value: i64) -> usize
+    ensures { λ r. ⌜ r ≡ outsideNumber value ⌝ }
+{
+    if value < 0 { 27 } else { 55 }
 }
 
 // Begins to read a variable: the answer offers its first access, or refuses.
@@ -139,6 +146,6 @@ pub fn begin_write(
     let encoded = bits::values::encode(kind, width, value);
     match encoded {
         Encoded::Pattern(pattern) => offer_write(registers, variables, held, v, 0, pattern),
-        Encoded::Outside => refuse(operation, 27),
+        Encoded::Outside => refuse(operation, outside_number(value)),
     }
 }

@@ -9,7 +9,7 @@ use second::generate::{damaged_tables, every_step, run, sound_tables, valid, Ran
 use second::replay::Call;
 use second::{load, tables, Answer, Description, Operation, Verdict};
 
-const ANSWERS: [&str; 13] = [
+const ANSWERS: [&str; 14] = [
     "opened",
     "offer",
     "done",
@@ -23,6 +23,7 @@ const ANSWERS: [&str; 13] = [
     "refused 26",
     "refused 27",
     "refused 28",
+    "refused 55",
 ];
 
 /// All answers but one.
@@ -104,7 +105,7 @@ fn some_call(random: &mut Random, set: &TableSet) -> Call {
             Call::Open((0..length).map(|_| random.byte()).collect())
         }
         2 | 3 => Call::Read(variable),
-        4 | 5 => Call::Write(variable, random.below(4) as i64),
+        4 | 5 => Call::Write(variable, random.below(6) as i64 - 2),
         6..=8 => Call::Confirm(random.byte()),
         9 => Call::Abandon,
         10 => Call::LendRecord(Some(registers.saturating_sub(1) + random.below(3))),
@@ -299,7 +300,8 @@ fn large_numbers() {
     for value in [i64::MIN, -(1 << 32), -513, -5, 1024, 1 << 32, i64::MAX] {
         for variable in 0..3 {
             let answer = both.perform(&Call::Write(variable, value));
-            assert_eq!(answer, Some(Answer::Refused(27)));
+            let number = if value < 0 { 27 } else { 55 };
+            assert_eq!(answer, Some(Answer::Refused(number)));
         }
     }
     for variable in [3, 128, 1 << 32, usize::MAX] {

@@ -49,6 +49,7 @@ fn ending(ended: Result<Done, Stopped<TimedOut>>) -> String {
     match ended {
         Ok(Done { value, accesses }) => format!("  done: {value}, in {accesses} accesses\n"),
         Err(Stopped::Refused(refusal)) => format!("  {refusal}\n"),
+        Err(Stopped::Outside(outside)) => format!("  {outside}\n"),
         Err(Stopped::Failed(TimedOut)) => "  the board does not answer: abandoned\n".to_string(),
     }
 }
@@ -80,6 +81,8 @@ pub fn story(text: Vec<u8>) -> Result<String, Box<dyn Error>> {
         ),
         ("Write 3000 again.", Some(3000), 2),
         ("Read it.", None, 2),
+        ("Write 5000.", Some(5000), 2),
+        ("Write -1.", Some(-1), 2),
     ];
     for (title, value, patience) in parts {
         board.notes += &format!("{title}\n");

@@ -2,6 +2,7 @@
 
 use std::error::Error;
 use std::fmt;
+use std::ops::RangeInclusive;
 
 use crate::raw::{self, PARAMETERS_WORDS, REGISTERS_WORDS, VARIABLES_WORDS, VERDICT_WORDS};
 use crate::Refusal;
@@ -10,6 +11,9 @@ use crate::Refusal;
 const PARAMETER_ENTRY: usize = 36;
 const REGISTER_ENTRY: usize = 15;
 const VARIABLE_ENTRY: usize = 59;
+
+/// The kind of a `signed int`.
+const SIGNED: u32 = 1;
 
 /// The answer to a text.
 #[derive(Clone, Copy, Debug, PartialEq, Eq)]
@@ -195,6 +199,22 @@ impl Description {
     /// The name of a variable, if there is one of this index.
     pub fn variable_name(&self, index: usize) -> Option<&str> {
         self.name(&self.tables.variables, VARIABLE_ENTRY, index)
+    }
+
+    /// The values that a variable's type has, from the least to the greatest, if there is a variable
+    /// of this index. A write of another value is refused: below the least by 27, above the greatest
+    /// by 55.
+    pub fn range(&self, index: usize) -> Option<RangeInclusive<i64>> {
+        if index >= self.variables() {
+            return None;
+        }
+        let [kind, width] = [3, 4].map(|word| self.tables.variables[VARIABLE_ENTRY * index + word]);
+        if kind == SIGNED {
+            let half = 1 << (width - 1);
+            Some(-half..=half - 1)
+        } else {
+            Some(0..=(1 << width) - 1)
+        }
     }
 
     fn name(&self, table: &[u32], entry: usize, index: usize) -> Option<&str> {

@@ -52,4 +52,4 @@ pub mod raw;
 pub use description::{Description, Refused, Tables, Verdict};
 pub use refusal::Refusal;
 pub use station::{Access, Answer, Direction, Operation, Station};
-pub use through::{Done, Ports, Stopped};
+pub use through::{Done, Outside, Ports, Stopped};

@@ -1,4 +1,4 @@
-//! The refusals of document 01, each with its number and the words of docs/REFUSALS.md.
+//! The refusals of documents 01 and 02, each with its number and the words of docs/REFUSALS.md.
 
 use std::error::Error;
 use std::fmt;
@@ -68,12 +68,13 @@ refusals! {
     Idle = 24, "confirm or abandon with none in hand";
     NoVariable = 25, "no such variable";
     NoPart = 26, "the variable has not that part";
-    OutOfRange = 27, "the value is outside the variable's type";
+    TooLow = 27, "the value is below the least of the variable's type";
     HalfWritten = 28, "the variable is half-written";
+    TooHigh = 55, "the value is above the greatest of the variable's type";
 }
 
 impl Refusal {
-    /// Its number in document 01.
+    /// Its number in documents 01 and 02.
     pub fn number(self) -> u8 {
         self as u8
     }

@@ -103,7 +103,8 @@ impl<'d> Station<'d> {
         answered(answer)
     }
 
-    /// Begins the write of a variable.
+    /// Begins the write of a variable. A value below the least of its type is refused by 27, one
+    /// above the greatest by 55; [`Description::range`] tells both.
     pub fn begin_write(&mut self, variable: usize, value: i64) -> Answer {
         let mut answer = [0; ANSWER_WORDS];
         raw::begin_write(

@@ -23,11 +23,45 @@ pub struct Done {
     pub accesses: usize,
 }
 
+/// A value that its variable's type does not have, and the least and the greatest that it has.
+#[derive(Clone, Copy, Debug, PartialEq, Eq)]
+pub struct Outside {
+    /// [`Refusal::TooLow`] or [`Refusal::TooHigh`].
+    pub refusal: Refusal,
+    pub value: i64,
+    pub least: i64,
+    pub greatest: i64,
+}
+
+impl fmt::Display for Outside {
+    fn fmt(&self, f: &mut fmt::Formatter<'_>) -> fmt::Result {
+        let Outside {
+            refusal,
+            value,
+            least,
+            greatest,
+        } = self;
+        let which = match refusal {
+            Refusal::TooLow => "too low",
+            _ => "too high",
+        };
+        let number = refusal.number();
+        write!(
+            f,
+            "refused ({number}): {value} is {which}: the least is {least}, the greatest {greatest}"
+        )
+    }
+}
+
+impl Error for Outside {}
+
 /// Why a read or write is not done.
 #[derive(Clone, Copy, Debug, PartialEq, Eq)]
 pub enum Stopped<F> {
     /// It was refused, and no access was performed.
     Refused(Refusal),
+    /// The value to be written is too low (27) or too high (55), and no access was performed.
+    Outside(Outside),
     /// An access failed, and the operation was abandoned: a write leaves its variable half-written.
     Failed(F),
 }
@@ -36,6 +70,7 @@ impl<F: fmt::Display> fmt::Display for Stopped<F> {
     fn fmt(&self, f: &mut fmt::Formatter<'_>) -> fmt::Result {
         match self {
             Stopped::Refused(refusal) => refusal.fmt(f),
+            Stopped::Outside(outside) => outside.fmt(f),
             Stopped::Failed(failure) => write!(f, "abandoned: {failure}"),
         }
     }
@@ -62,6 +97,15 @@ impl Station<'_> {
         ports: &mut P,
     ) -> Result<Done, Stopped<P::Failure>> {
         let begun = self.begin_write(variable, value);
+        if let Answer::Refused(refusal @ (Refusal::TooLow | Refusal::TooHigh)) = begun {
+            let range = self.description().range(variable).expect("a variable");
+            return Err(Stopped::Outside(Outside {
+                refusal,
+                value,
+                least: *range.start(),
+                greatest: *range.end(),
+            }));
+        }
         self.carry_out(begun, ports)
     }
 

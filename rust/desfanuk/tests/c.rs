@@ -76,6 +76,16 @@ fn the_numbers_of_the_header_are_those_of_the_crate() {
     for (name, number) in &numbers {
         program += &format!("typedef char {name}_is[{name} == {number} ? 1 : -1];\n");
     }
+    for (kind, width) in (0..3).flat_map(|kind| (1..=32).map(move |width| (kind, width))) {
+        let (least, greatest) = match kind {
+            1 => (-(1i64 << (width - 1)), (1i64 << (width - 1)) - 1),
+            _ => (0, (1i64 << width) - 1),
+        };
+        program += &format!(
+            "typedef char range_{kind}_{width}[DESFANUK_LEAST({kind}, {width}) == {least} && \
+             DESFANUK_GREATEST({kind}, {width}) == {greatest} ? 1 : -1];\n"
+        );
+    }
     let path = scratch("numbers.c");
     fs::write(&path, program).expect("written");
     for language in [

@@ -80,9 +80,12 @@ fn every_refusal_of_a_caller() {
     for (variable, value, refusal) in [
         (usize::MAX, 0, Refusal::NoVariable),
         (STATE, 0, Refusal::NoPart),
-        (MODE, 4, Refusal::OutOfRange),
-        (X, 128, Refusal::OutOfRange),
-        (X, i64::MIN, Refusal::OutOfRange),
+        (MODE, 4, Refusal::TooHigh),
+        (MODE, -1, Refusal::TooLow),
+        (X, 128, Refusal::TooHigh),
+        (X, -129, Refusal::TooLow),
+        (X, i64::MIN, Refusal::TooLow),
+        (X, i64::MAX, Refusal::TooHigh),
     ] {
         let answer = station.begin_write(variable, value);
         assert_eq!(answer, Answer::Refused(refusal));
@@ -90,6 +93,76 @@ fn every_refusal_of_a_caller() {
     assert_eq!(station.begin_read(X), read(0));
     assert_eq!(station.begin_read(9), Answer::Refused(Refusal::Busy));
     assert_eq!(station.record(), POWER_ON);
+}
+
+/// A description with one variable of this type, over as many registers as its bits need.
+fn one_variable(of_type: &str, width: usize) -> Description {
+    let mut text = "device d(b:bit[8] port@{0..3}){".to_string();
+    let mut list = Vec::new();
+    for (offset, high) in (0..width).step_by(8).enumerate() {
+        let bits = (width - high).min(8);
+        let mask = format!("{}{}", "*".repeat(8 - bits), ".".repeat(bits));
+        text += &format!("register r{offset}=b@{offset},mask '{mask}':bit[8];");
+        list.push(format!("r{offset}[{}..0]", bits - 1));
+    }
+    text += &format!("variable v={}:{of_type};}}", list.join("#"));
+    Description::load(text).expect("a good description")
+}
+
+/// For every kind and width: the least and the greatest are offered, and one more on either side is
+/// refused by its own number.
+#[test]
+fn the_range_ends_where_the_refusals_begin() {
+    let widths = 1..=32;
+    let numbers = widths.flat_map(|width| {
+        [
+            (format!("int({width})"), width),
+            (format!("signed int({width})"), width),
+        ]
+    });
+    for (of_type, width) in numbers.chain([("bool".to_string(), 1)]) {
+        let description = one_variable(&of_type, width);
+        let mut station = Station::open(&description, &[0; 4]).expect("enough bytes");
+        let range = description.range(0).expect("a variable");
+        assert_eq!(range.end() - range.start(), (1 << width) - 1, "{of_type}");
+        for (value, refusal) in [
+            (range.start() - 1, Refusal::TooLow),
+            (range.end() + 1, Refusal::TooHigh),
+        ] {
+            let answer = station.begin_write(0, value);
+            assert_eq!(answer, Answer::Refused(refusal), "{of_type} {value}");
+        }
+        for value in [*range.start(), *range.end()] {
+            let answer = station.begin_write(0, value);
+            assert!(matches!(answer, Answer::Offer(_)), "{of_type} {value}");
+            assert_eq!(station.abandon(), Ok(()));
+        }
+        assert_eq!(description.range(1), None);
+    }
+}
+
+#[test]
+fn a_value_outside_is_told_in_words() {
+    let description = description();
+    let mut station = Station::open(&description, &POWER_ON).expect("enough bytes");
+    let mut ports = Storage {
+        bytes: POWER_ON,
+        dead: None,
+    };
+    for (value, words) in [
+        (
+            128,
+            "refused (55): 128 is too high: the least is -128, the greatest 127",
+        ),
+        (
+            -129,
+            "refused (27): -129 is too low: the least is -128, the greatest 127",
+        ),
+    ] {
+        let stopped = station.write(X, value, &mut ports).expect_err("outside");
+        assert_eq!(stopped.to_string(), words);
+    }
+    assert_eq!(ports.bytes, POWER_ON);
 }
 
 #[test]

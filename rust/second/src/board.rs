@@ -79,11 +79,8 @@ pub fn held_by(variable: &Variable, cells: &[u8]) -> i64 {
 
 /// A value in the variable's range.
 pub fn some_value(random: &mut Random, variable: &Variable) -> i64 {
-    let value = (random.number() % (1u64 << variable.width)) as i64;
-    match variable.kind {
-        Kind::Signed => value - (1 << (variable.width - 1)),
-        _ => value,
-    }
+    let (least, greatest) = variable.bounds();
+    least + (random.number() % (greatest - least + 1) as u64) as i64
 }
 
 /// What reading a plain variable must give.

@@ -118,6 +118,15 @@ impl Register {
 }
 
 impl Variable {
+    /// The least and the greatest value of its type.
+    pub fn bounds(&self) -> (i64, i64) {
+        let size = 1i64 << self.width;
+        match self.kind {
+            Kind::Int | Kind::Bool => (0, size - 1),
+            Kind::Signed => (-size / 2, size / 2 - 1),
+        }
+    }
+
     pub fn part(&self, part: Part) -> Option<&Bits> {
         match part {
             Part::Read => self.read.as_ref(),

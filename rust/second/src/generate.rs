@@ -1,5 +1,9 @@
 //! Generated descriptions, damaged texts, tables and runs of calls. Everything follows from a seed.
 
+use std::collections::BTreeMap;
+
+use crate::replay::Session;
+
 mod broken;
 mod lines;
 mod random;
@@ -40,6 +44,33 @@ pub fn distribution(seed: u64, count: usize) -> [usize; 17] {
         seen[verdict_number(&text(&mut random))] += 1;
     }
     seen
+}
+
+/// How often each kind of answer came to the calls of so many runs: its first word, or a refusal's
+/// number.
+pub fn answers(seed: u64, runs: usize) -> BTreeMap<String, usize> {
+    let mut random = Random::new(seed);
+    let mut seen = BTreeMap::new();
+    for _ in 0..runs {
+        let text = valid(&mut random);
+        let calls = run(&mut random, &text, 60);
+        let Ok(mut session) = Session::new(&text) else {
+            continue;
+        };
+        for call in calls {
+            *seen.entry(kind(&session.perform(&call))).or_insert(0) += 1;
+        }
+    }
+    seen
+}
+
+/// The kind of an answer: its first word, or a refusal's number.
+pub fn kind(answer: &str) -> String {
+    let mut words = answer.split(' ');
+    match (words.next(), words.next()) {
+        (Some("refused"), Some(number)) => number.to_string(),
+        (first, _) => first.unwrap_or_default().to_string(),
+    }
 }
 
 /// The number of a text's refusal; 0 when it is accepted.

@@ -183,6 +183,10 @@ impl Session {
         self.operation
     }
 
+    pub fn marks(&self) -> &[u8] {
+        &self.marks
+    }
+
     pub fn perform(&mut self, call: &Call) -> String {
         match call {
             Call::Open(_) | Call::Read(_) | Call::Write(..) | Call::Confirm(_) | Call::Abandon => {

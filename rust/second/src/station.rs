@@ -143,7 +143,7 @@ pub fn begin_write(
         none_in_hand(&description, operation)?;
         let wanted = description.variables.get(variable).ok_or(25)?;
         let bits = wanted.write.as_ref().ok_or(26)?;
-        let value = pattern(wanted, value).ok_or(27)?;
+        let value = pattern(wanted, value)?;
         *operation = Operation::Writing {
             variable,
             step: 0,
@@ -427,14 +427,17 @@ fn write_access(
     }
 }
 
-/// The bit pattern of a value of the variable's type; `None` is refusal 27.
-fn pattern(variable: &Variable, value: i64) -> Option<u32> {
-    let size = 1i64 << variable.width;
-    let (least, greatest) = match variable.kind {
-        Kind::Int | Kind::Bool => (0, size - 1),
-        Kind::Signed => (-size / 2, size / 2 - 1),
-    };
-    (least <= value && value <= greatest).then(|| value.rem_euclid(size) as u32)
+/// The bit pattern of a value of the variable's type. A value below the type's least is refusal 27,
+/// one above its greatest refusal 55.
+fn pattern(variable: &Variable, value: i64) -> Result<u32, u8> {
+    let (least, greatest) = variable.bounds();
+    if value < least {
+        return Err(27);
+    }
+    if value > greatest {
+        return Err(55);
+    }
+    Ok(value.rem_euclid(1 << variable.width) as u32)
 }
 
 /// The value of a bit pattern, two's complement where the type is signed.
@@ -569,6 +572,56 @@ mod tests {
             (&record[..], &marks[..]),
             (&[0x12, 2, 9, 9, 9][..], &[1, 9, 9, 9][..])
         );
+    }
+
+    /// A device whose only variable has this type, over the low bits of as many registers as it takes.
+    fn only_variable(kind: &str, width: u32) -> [Vec<u32>; 3] {
+        let mut text = "device d(b:bit[8] port@{0..3}){".to_string();
+        let mut pieces = Vec::new();
+        for register in 0..width.div_ceil(8) {
+            let bits = (width - 8 * register).min(8) as usize;
+            let mask = "*".repeat(8 - bits) + &".".repeat(bits);
+            text += &format!("register r{register}=b@{register},mask '{mask}':bit[8];");
+            pieces.push(format!("r{register}[{}..0]", bits - 1));
+        }
+        text += &format!("variable v={}:{kind};}}", pieces.join("#"));
+        match load(text.as_bytes()) {
+            Verdict::Accepted { description } => tables(&description).into(),
+            refused => panic!("{refused}: {text}"),
+        }
+    }
+
+    /// Below its least a value is refused by 27, above its greatest by 55, in every type.
+    #[test]
+    fn too_low_or_too_high() {
+        let mut types = vec![("bool".to_string(), 1, 0, 1)];
+        for width in 1..=32 {
+            let size = 1i64 << width;
+            types.push((format!("int({width})"), width, 0, size - 1));
+            let signed = format!("signed int({width})");
+            types.push((signed, width, -size / 2, size / 2 - 1));
+        }
+        for (kind, width, least, greatest) in types {
+            let words = only_variable(&kind, width);
+            let begin = |value| {
+                let mut operation = Operation::Idle;
+                let answer = begin_write(lent(&words), &[0; 4], &[0], &mut operation, 0, value);
+                assert_eq!(
+                    operation == Operation::Idle,
+                    matches!(answer, Answer::Refused(_))
+                );
+                answer
+            };
+            for value in [least - 1, i64::MIN] {
+                assert_eq!(begin(value), Answer::Refused(27), "{kind}: {value}");
+            }
+            for value in [greatest + 1, i64::MAX] {
+                assert_eq!(begin(value), Answer::Refused(55), "{kind}: {value}");
+            }
+            for value in [least, greatest] {
+                assert!(matches!(begin(value), Answer::Offer(_)), "{kind}: {value}");
+            }
+        }
     }
 
     /// Any mark but 0 is half-written.

@@ -1,7 +1,7 @@
 //! Generated texts, tables and runs: what must hold of all of them.
 
 use second::generate::{
-    broken, damaged_tables, distribution, every_step, run, sound_tables, text, valid,
+    answers, broken, damaged_tables, distribution, every_step, run, sound_tables, text, valid,
     verdict_number, written, Random,
 };
 use second::replay::{Call, Session};
@@ -140,7 +140,6 @@ fn damaged_tables_are_told_from_sound_ones() {
 #[test]
 fn refusals_leave_the_state() {
     let mut random = Random::new(7);
-    let mut seen = std::collections::BTreeMap::new();
     for _ in 0..120 {
         let text = valid(&mut random);
         let mut session = Session::new(&text).unwrap();
@@ -150,14 +149,15 @@ fn refusals_leave_the_state() {
             if answer.starts_with("refused") {
                 assert_eq!(session.perform(&Call::State), before);
             }
-            let words: Vec<&str> = answer.split(' ').collect();
-            let kind = match words[0] {
-                "refused" => words[1].to_string(),
-                word => word.to_string(),
-            };
-            *seen.entry(kind).or_insert(0) += 1;
         }
     }
+}
+
+/// Sound tables leave no refusal 20; every other answer of a station comes once in a hundred times.
+#[test]
+fn runs_have_every_answer() {
+    let seen = answers(4, 200);
+    let total: usize = seen.values().sum();
     for kind in [
         "opened",
         "offer",
@@ -171,14 +171,13 @@ fn refusals_leave_the_state() {
         "26",
         "27",
         "28",
-        "variable",
-        "none",
+        "55",
     ] {
-        assert!(
-            seen.get(kind).is_some_and(|count| *count >= 5),
-            "{kind}: {seen:?}"
-        );
+        let count = seen.get(kind).copied().unwrap_or(0);
+        assert!(100 * count >= total, "{kind}: {seen:?}");
     }
+    assert!(seen.contains_key("variable") && seen.contains_key("none"));
+    assert!(!seen.contains_key("20"));
 }
 
 #[test]

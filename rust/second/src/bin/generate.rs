@@ -3,10 +3,11 @@
 //! - `generate texts SEED COUNT`: so many framed texts
 //! - `generate script SEED`: a framed text and calls over it, for `replay`
 //! - `generate distribution SEED COUNT`: how often each verdict comes among so many texts
+//! - `generate answers SEED COUNT`: how often each answer comes in so many runs of calls
 
 use std::io::{self, BufWriter, Write};
 
-use second::generate::{distribution, every_step, run, text, valid, Random};
+use second::generate::{answers, distribution, every_step, run, text, valid, Random};
 
 fn main() -> io::Result<()> {
     let arguments: Vec<String> = std::env::args().skip(1).collect();
@@ -45,8 +46,13 @@ fn main() -> io::Result<()> {
                 writeln!(out, "refused {refusal}: {count}")?;
             }
         }
+        ["answers", seed, count] => {
+            for (kind, count) in answers(number(seed), number(count) as usize) {
+                writeln!(out, "{kind}: {count}")?;
+            }
+        }
         _ => {
-            eprintln!("generate texts SEED COUNT | script SEED | distribution SEED COUNT");
+            eprintln!("generate texts SEED COUNT | script SEED | distribution SEED COUNT | answers SEED COUNT");
             std::process::exit(2);
         }
     }

@@ -1,7 +1,7 @@
 //! Runs of calls over a text: good ones, refused ones, out of order, and abandoned at every step.
 
 use super::Random;
-use crate::description::{Description, Kind, Part, Variable, PARTS};
+use crate::description::{Description, Part, Variable, PARTS};
 use crate::load::{load, Verdict};
 use crate::replay::{Call, Session};
 use crate::station::Operation;
@@ -59,9 +59,9 @@ fn next(
         };
     }
     match random.below(100) {
-        0..=34 => good_write(random, description),
-        35..=64 => read(random, description),
-        65..=71 => bad_write(random, description),
+        0..=32 => good_write(random, description),
+        33..=61 => read(random, description, session),
+        62..=71 => bad_write(random, description),
         72..=75 => Call::Confirm(random.byte()),
         76..=79 => Call::Abandon,
         80..=83 => open(random, description),
@@ -92,16 +92,14 @@ fn some_variable(random: &mut Random, description: &Description) -> usize {
     }
 }
 
-fn read(random: &mut Random, description: &Description) -> Call {
-    Call::Read(some_variable(random, description))
-}
-
-/// The least and the greatest value of a variable's type.
-fn bounds(variable: &Variable) -> (i64, i64) {
-    let size = 1i64 << variable.width;
-    match variable.kind {
-        Kind::Signed => (-size / 2, size / 2 - 1),
-        Kind::Int | Kind::Bool => (0, size - 1),
+/// Now and then a half-written variable, if there is one.
+fn read(random: &mut Random, description: &Description, session: &Session) -> Call {
+    let marked: Vec<usize> = (0..description.variables.len())
+        .filter(|variable| session.marks()[*variable] != 0)
+        .collect();
+    match marked.is_empty() || !random.one_in(6) {
+        true => Call::Read(some_variable(random, description)),
+        false => Call::Read(*random.pick(&marked)),
     }
 }
 
@@ -110,7 +108,7 @@ fn good_write(random: &mut Random, description: &Description) -> Call {
     let Some(variable) = description.variables.get(index) else {
         return Call::Write(index, 0);
     };
-    let (least, greatest) = bounds(variable);
+    let (least, greatest) = variable.bounds();
     let value = match random.below(6) {
         0 => least,
         1 => greatest,
@@ -121,7 +119,10 @@ fn good_write(random: &mut Random, description: &Description) -> Call {
 
 fn bad_write(random: &mut Random, description: &Description) -> Call {
     let index = some_variable(random, description);
-    let (least, greatest) = description.variables.get(index).map_or((0, 0), bounds);
+    let (least, greatest) = description
+        .variables
+        .get(index)
+        .map_or((0, 0), Variable::bounds);
     let value = match random.below(5) {
         0 => least - 1,
         1 => greatest + 1,
@@ -190,7 +191,7 @@ pub fn every_step(random: &mut Random, text: &[u8]) -> Vec<Call> {
     };
     let mut calls = vec![Call::Open(bytes(random))];
     for (index, variable) in description.variables.iter().enumerate() {
-        let (least, greatest) = bounds(variable);
+        let (least, greatest) = variable.bounds();
         for part in PARTS {
             let Some(bits) = variable.part(part) else {
                 continue;

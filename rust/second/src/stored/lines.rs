@@ -84,7 +84,7 @@ const NUMBERS: &str = "open 0x0a -> opened
     write 0 -0 -> offer write 0 0 0x00
     confirm 0 -> done 0 1
     write 0 -0x1 -> refused 27
-    write 0 0x7FFFFFFFFFFFFFFF -> refused 27
+    write 0 0x7FFFFFFFFFFFFFFF -> refused 55
     write 0 -0x8000000000000000 -> refused 27
     read 18446744073709551615 -> refused 25
     write 0xFFFFFFFFFFFFFFFF 0 -> refused 25

@@ -5,6 +5,7 @@
 
 mod boards;
 mod grammar;
+mod limits;
 mod lines;
 mod order;
 mod rules;
@@ -75,6 +76,7 @@ impl Script {
 /// All stored scripts. The last ends without a newline.
 pub fn scripts() -> Vec<Script> {
     let mut scripts = scripts::scripts();
+    scripts.extend(limits::scripts());
     scripts.extend(runs::scripts());
     scripts.extend(lines::scripts());
     scripts

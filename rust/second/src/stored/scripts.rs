@@ -46,7 +46,7 @@ pub fn scripts() -> Vec<Script> {
             "open 0xFF -> opened
              write 0 2 -> offer write 0 2 0xC0
              confirm 0 -> done 2 1
-             write 0 4 -> refused 27
+             write 0 4 -> refused 55
              read 0 -> refused 26
              state -> record C0 marks 0 operation idle",
         ),
@@ -175,7 +175,7 @@ pub fn scripts() -> Vec<Script> {
              read 1 -> refused 26
              write 0 0 -> refused 26
              write 0 999 -> refused 26
-             write 1 256 -> refused 27
+             write 1 256 -> refused 55
              write 1 -1 -> refused 27
              read 0 -> offer read 0 0 0x00
              read 0 -> refused 23
@@ -259,7 +259,9 @@ pub fn scripts() -> Vec<Script> {
             "open 0xA5 -> opened
              write 0 1 -> offer write 0 0 0x15
              abandon -> abandoned
-             write 0 16 -> refused 27
+             write 0 16 -> refused 55
+             read 0 -> refused 28
+             write 0 -1 -> refused 27
              read 0 -> refused 28
              state -> record A5 marks 1 0 operation idle",
         ),
@@ -290,20 +292,20 @@ pub fn scripts() -> Vec<Script> {
             "values-and-types",
             KINDS,
             "open 0 0 0 0 0 0 0 0 0 -> opened
-             write 0 4294967296 -> refused 27
+             write 0 4294967296 -> refused 55
              write 0 -1 -> refused 27
-             write 1 2147483648 -> refused 27
+             write 1 2147483648 -> refused 55
              write 1 -2147483649 -> refused 27
-             write 2 2 -> refused 27
+             write 2 2 -> refused 55
              write 2 -1 -> refused 27
-             write 3 1 -> refused 27
+             write 3 1 -> refused 55
              write 3 -2 -> refused 27
-             write 4 2 -> refused 27
+             write 4 2 -> refused 55
              write 4 -1 -> refused 27
-             write 5 16 -> refused 27
+             write 5 16 -> refused 55
              write 5 -17 -> refused 27
              write 5 -9223372036854775808 -> refused 27
-             write 5 9223372036854775807 -> refused 27
+             write 5 9223372036854775807 -> refused 55
              write 0 4294967295 -> offer write 0 0 0xFF
              confirm 0 -> offer write 0 1 0xFF
              confirm 0 -> offer write 0 2 0xFF

@@ -7,7 +7,7 @@ use borrow.Author.Needs.{needs}
 use Rattle.tables.specs.View.{Tables}
 use Rattle.bits.specs.declared.values.Encoded.{Encoded}
 use Rattle.station.specs.Standing.{tablesOf}
-use Rattle.station.specs.Station.{State, stateOf, leave, startedWrite}
+use Rattle.station.specs.Station.{State, stateOf, leave, refusal, outsideNumber, startedWrite}
 use Rattle.station.proofs.CallLaws.{leaves, encoded-as, begins}
 use Rattle.station.proofs.Meeting.{meets-refused, meets-passed}
 use Rattle.station.proofs.Bridge.{begin-write-is}
@@ -49,24 +49,30 @@ offer-write-requires c κs =
 enum-told : tie.Need-enum-told
 enum-told c = search needs
 
+outside-number-requires : tie.Need-outside-number-requires
+outside-number-requires c κs = search needs
+
 refuse-requires-2 : tie.Need-refuse-requires-2
 refuse-requires-2 c κs = search needs
 
 returns-2 : tie.Need-returns-2
 unfolding startedWrite
 returns-2 c =
-    let t = tables-at (c .before .before .before .before .before .before .before .before .before .before .before .before .before .before) in
-    let s = state-at (c .before .before .before .before .before .before .before .before .before .before .before .before .before .before) in
-    let pattern = encoded-as (c .before .before .before .before .encode .ensures) (c .before .before .before .before .before .before .kind-of .ensures) (c .before .before .before .before .before .width-of .ensures) (toZ-ofZ (c .before .before .before .before .before .before .before .before .before .before .before .before .before .before .fits .value)) ∙ c .before .before .encoded .given .1 in
-    meets-passed s _ (begin-write-is (tables-at (c .before .before .before .before .before .before .before .before .before .before .before .before .before .before)) (state-at (c .before .before .before .before .before .before .before .before .before .before .before .before .before .before)) (c .before .before .before .before .before .before .before .before .before .before .before .before .before .before .args .v) _) (c .before .before .before .before .before .before .before .before .begin-fault .ensures) (c .before .before .before .before .before .before .before .if1 .left) (ap (λ (e : Encoded). leave s (startedWrite t s (c .before .before .before .before .before .before .before .before .before .before .before .before .before .before .args .v) e)) pattern) (leaves _ _ (c .offer-write .ensures))
+    let start = c .before .before .before .before .before .before .before .before .before .before .before .before .before .before in
+    let t = tables-at start in
+    let s = state-at start in
+    let pattern = encoded-as (c .before .before .before .before .encode .ensures) (c .before .before .before .before .before .before .kind-of .ensures) (c .before .before .before .before .before .width-of .ensures) (toZ-ofZ (start .fits .value)) ∙ c .before .before .encoded .given .1 in
+    meets-passed s _ (begin-write-is t s (start .args .v) _) (c .before .before .before .before .before .before .before .before .begin-fault .ensures) (c .before .before .before .before .before .before .before .if1 .left) (ap (λ (e : Encoded). leave s (startedWrite t s (start .args .v) (start .args .value) e)) pattern) (leaves _ _ (c .offer-write .ensures))
 
 returns-3 : tie.Need-returns-3
 unfolding startedWrite
 returns-3 c =
-    let t = tables-at (c .before .before .before .before .before .before .before .before .before .before .before .before .before) in
-    let s = state-at (c .before .before .before .before .before .before .before .before .before .before .before .before .before) in
-    let outside = encoded-as (c .before .before .before .encode .ensures) (c .before .before .before .before .before .kind-of .ensures) (c .before .before .before .before .width-of .ensures) (toZ-ofZ (c .before .before .before .before .before .before .before .before .before .before .before .before .before .fits .value)) ∙ c .before .enum-told .given .1 in
-    meets-passed s _ (begin-write-is (tables-at (c .before .before .before .before .before .before .before .before .before .before .before .before .before)) (state-at (c .before .before .before .before .before .before .before .before .before .before .before .before .before)) (c .before .before .before .before .before .before .before .before .before .before .before .before .before .args .v) _) (c .before .before .before .before .before .before .before .begin-fault .ensures) (c .before .before .before .before .before .before .if1 .left) (ap (λ (e : Encoded). leave s (startedWrite t s (c .before .before .before .before .before .before .before .before .before .before .before .before .before .args .v) e)) outside) (leaves _ _ (c .refuse2 .ensures))
+    let start = c .before .before .before .before .before .before .before .before .before .before .before .before .before .before in
+    let t = tables-at start in
+    let s = state-at start in
+    let outside = encoded-as (c .before .before .before .before .encode .ensures) (c .before .before .before .before .before .before .kind-of .ensures) (c .before .before .before .before .before .width-of .ensures) (toZ-ofZ (start .fits .value)) ∙ c .before .before .enum-told .given .1 in
+    let number = c .before .outside-number .ensures ∙ ap outsideNumber (toZ-ofZ (start .fits .value)) in
+    meets-passed s _ (begin-write-is t s (start .args .v) _) (c .before .before .before .before .before .before .before .before .begin-fault .ensures) (c .before .before .before .before .before .before .before .if1 .left) (ap (λ (e : Encoded). leave s (startedWrite t s (start .args .v) (start .args .value) e)) outside) (leaves _ _ (c .refuse2 .ensures ∙ ap (refusal (start .args .operation)) number))
 
 pub begin-write-spec : {M : Type 1} → statement M
 begin-write-spec =
@@ -81,6 +87,7 @@ begin-write-spec =
     enum-known-encoded
     offer-write-requires
     enum-told
+    outside-number-requires
     refuse-requires-2
     returns-2
     returns-3)
