@@ -134,7 +134,8 @@ extern "C" {
 #define DESFANUK_REFUSED_OFFSET 8
 /* A bad pairing of ports, or a bad mask. */
 #define DESFANUK_REFUSED_PORTS 9
-/* A part's parameter and offset already serve that part of an earlier register. */
+/* A part's parameter and offset already serve that part of an earlier register; of two write parts, unless some bit is
+   fixed 0 in one mask and 1 in the other. */
 #define DESFANUK_REFUSED_PLACE 10
 /* A bit that the part cannot map, a bad pairing of bit lists, or over 32 bits. */
 #define DESFANUK_REFUSED_BITS 11

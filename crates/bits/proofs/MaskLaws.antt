@@ -1,13 +1,15 @@
 -- Masks: what `&` of two numbers says of their bits, for any width.
-use Prim.Native.Nat.{ℕ, zero, suc, _/_, _%_, _^_, _<_, min}
+use Prim.Native.Nat.{ℕ, zero, suc, _+_, _/_, _%_, _^_, _<_, min}
 use mathlib.Core.Path.{_≡_, refl, sym, ap, ap₂, _∙_}
 use mathlib.Core.Bool.{Bool, true, false, _&&_, false≢true}
 use native.Mathlib.Omega.{arith}
-use native.Mathlib.Nat.{div-div-eq-div-mul, pow-suc, mul-comm, zero-div}
+use native.Mathlib.Nat.{div-div-eq-div-mul, pow-suc, mul-comm, zero-div, lt-of-lt-of-le}
+use lib.Pow.{pow-mono}
 use lib.Arith.{digits-div, digits-mod}
 use lib.Bits.{bitAnd, and-step}
 use lib.Dec.{eqb}
 use Rattle.bits.specs.Bits.{bit}
+use Rattle.bits.proofs.BitLaws.{bits-equal}
 
 -- the lowest bit, and the others by halving
 pub bit-lowest : (n : ℕ) → bit 0 n ≡ eqb (n % 2) 1
@@ -60,3 +62,12 @@ bits-apart m n h b e = second (bit b m) (bit b n) false (sym (bit-and b m n) ∙
 
 pub bits-inside : (m n : ℕ) → bitAnd m n ≡ m → (b : ℕ) → bit b m ≡ true → bit b n ≡ true
 bits-inside m n h b e = second (bit b m) (bit b n) true (sym (bit-and b m n) ∙ ap (bit b) h ∙ e) e
+
+-- two numbers with the same bits are equal
+below-power : (n : ℕ) → n < 2 ^ n
+below-power zero = omega arith
+below-power (suc n) = omega (arith, below-power n)
+
+pub same-bits : (x y : ℕ) → ((b : ℕ) → bit b x ≡ bit b y) → x ≡ y
+same-bits x y e =
+    bits-equal (x + y) x y (lt-of-lt-of-le (below-power x) (pow-mono (omega arith))) (lt-of-lt-of-le (below-power y) (pow-mono (omega arith))) (λ b h. e b)

@@ -23,7 +23,7 @@ use Rattle.station.specs.declared.Access.{Access}
 use Rattle.station.specs.declared.Operation.{Operation}
 use Rattle.station.specs.declared.Operation.the-variants.{Idle, Reading, Writing}
 use Rattle.station.specs.declared.Answer.the-variants.{Opened}
-use Rattle.station.specs.Calls.{State, unless, isLong, isAllowed, onOffer, opening, registerTaken, keptOf, writtenByte}
+use Rattle.station.specs.Calls.{State, unless, isLong, isAllowed, onOffer, opening, keptOf, writtenByte}
 use Rattle.bits.proofs.BitLaws.{number-same, number-bits}
 use Rattle.station.proofs.Cases.{getD-among}
 use Rattle.station.proofs.ByteLaws.{byte-own}
@@ -36,7 +36,7 @@ use Rattle.board.proofs.Ledger.{at}
 use Rattle.board.proofs.BoardLaws.{put-other}
 use Rattle.board.proofs.Moves.{isOpen}
 use Rattle.board.proofs.Invariant.{opensOf}
-use Rattle.board.proofs.Steps.{Linked, InvW, step-keeps, after-keeps, reach-at}
+use Rattle.board.proofs.Steps.{Linked, InvW, step-keeps, after-keeps, reach-write}
 use Rattle.board.proofs.Onlooker.{half-is, step-settled, after-settled}
 use Rattle.board.proofs.World.{ok, rules, world-holds}
 use Rattle.board.proofs.Writes.{part-written}
@@ -104,7 +104,7 @@ module _ (t : Tables) (is-sound : sound t ≡ true) (c : Consistent t) (power : 
   own-offer (Reading v n g) w r here i sets = absurd (subst IsSome (sym sets) tt)
   own-offer (Writing v n x) w r here i sets =
       let a = writing-allowed t v n x (ap (isAllowed t) (sym here) ∙ i .1 .allowed) in
-      let reaches = reach-at sound t is-sound c power writing v n (writtenByte t (keptOf (w .state)) v x (registerTaken t writing v n)) (a .0) (a .2) in (
+      let reaches = reach-write sound t is-sound c power (w .state .kept) v n x (a .0) (a .2) in (
         v,
         i .0,
         subst (λ (op : Operation). Linked (w .asked) op (i .0)) here (i .2),

@@ -11,7 +11,7 @@ use lib.IntN.{ℤ, pos, natAbs}
 use lib.ListN.{length, getD, replicate}
 use Rattle.tables.specs.declared.Part.the-variants.{Read as reading, Write as writing}
 use Rattle.tables.specs.Marks.{joined, downFrom}
-use Rattle.tables.specs.View.{sound, Plain, Among, isVolatile, isTrigger, registerCount, registerWidth, registerHas, parameterOf, offsetOf, isDot, isOne, variableCount, kindOf, variableHas, bitsOf, size, placeOf, without, mentions, registersOf}
+use Rattle.tables.specs.View.{sound, Plain, Among, isVolatile, isTrigger, registerCount, registerWidth, registerHas, parameterOf, offsetOf, isDot, isOne, obeys, variableCount, kindOf, variableHas, bitsOf, size, placeOf, without, mentions, registersOf}
 use Rattle.station.specs.declared.Operation.the-variants.{Idle}
 use Rattle.station.specs.declared.Answer.{Answer}
 use Rattle.station.specs.declared.Answer.the-variants.{Refused, Opened, Done}
@@ -166,7 +166,7 @@ left : List Call → List ℕ
 left calls = readBack scoring (worldAfter start calls .cells)
 
 boards-are : (left firstCalls ∷ left secondCalls ∷ []) ≡ (0x0A ∷ 0xBC ∷ 0x39 ∷ 0x7C ∷ 0x00 ∷ []) ∷ (0x0A ∷ 0xBD ∷ 0x39 ∷ 0x7C ∷ 0x00 ∷ []) ∷ []
-unfolding left run scoring listed writesOf after unless isLong isUnderway isRead isGathered isAllowed isBelow isAbove inRange encode decode variableCount registerCount registerWidth registerHas parameterOf offsetOf isDot isOne kindOf variableHas joined downFrom bitsOf size placeOf without mentions registersOf bit numberOf ownBit otherBit settingsBit settingsByte writtenByte gatheredBit gather put answers lastWhere reached
+unfolding left run scoring listed writesOf after unless isLong isUnderway isRead isGathered isAllowed isBelow isAbove inRange encode decode variableCount registerCount registerWidth registerHas parameterOf offsetOf isDot isOne kindOf variableHas joined downFrom bitsOf size placeOf without mentions registersOf bit numberOf ownBit otherBit settingsBit settingsByte writtenByte gatheredBit gather put answers lastWhere reached obeys
 boards-are =
     ap₂ (λ (w u : World). readBack scoring (w .cells) ∷ readBack scoring (u .cells) ∷ []) (run-is firstCalls) (run-is secondCalls)
 
@@ -205,7 +205,7 @@ told-is =
     )
 
 ran-is : ran ≡ Done (pos 0x734) 2 ∷ Refused 28 ∷ Refused 28 ∷ Done (pos 12) 1 ∷ Done (pos 0x456) 2 ∷ []
-unfolding ran run scoring after unless isLong isUnderway isRead isGathered isAllowed isBelow isAbove inRange encode decode variableCount registerCount registerWidth registerHas parameterOf offsetOf isDot isOne kindOf variableHas joined downFrom bitsOf size placeOf without mentions registersOf bit numberOf ownBit otherBit settingsBit settingsByte writtenByte gatheredBit gather put answers lastWhere reached
+unfolding ran run scoring after unless isLong isUnderway isRead isGathered isAllowed isBelow isAbove inRange encode decode variableCount registerCount registerWidth registerHas parameterOf offsetOf isDot isOne kindOf variableHas joined downFrom bitsOf size placeOf without mentions registersOf bit numberOf ownBit otherBit settingsBit settingsByte writtenByte gatheredBit gather put answers lastWhere reached obeys
 ran-is = refl
 
 -- ── power lost between the two registers of a score: what was 0x123 and was to be 0x456 reads as neither ──
@@ -217,7 +217,7 @@ abbrev lostPower : List ℕ
 lostPower = readBack scoring (leftBy scoring false (worldAfter start lostCalls))
 
 lost-is : lostPower ≡ 0x04 ∷ 0x23 ∷ 0x5C ∷ 0x7C ∷ 0x00 ∷ []
-unfolding run scoring listed after unless isLong isUnderway isRead isGathered isAllowed isBelow isAbove inRange encode decode variableCount registerCount registerWidth registerHas parameterOf offsetOf isDot isOne kindOf variableHas joined downFrom bitsOf size placeOf without mentions registersOf bit numberOf ownBit otherBit settingsBit settingsByte writtenByte gatheredBit gather put answers lastWhere reached
+unfolding run scoring listed after unless isLong isUnderway isRead isGathered isAllowed isBelow isAbove inRange encode decode variableCount registerCount registerWidth registerHas parameterOf offsetOf isDot isOne kindOf variableHas joined downFrom bitsOf size placeOf without mentions registersOf bit numberOf ownBit otherBit settingsBit settingsByte writtenByte gatheredBit gather put answers lastWhere reached obeys
 lost-is = ap (λ (w : World). readBack scoring (leftBy scoring false w)) (run-is lostCalls)
 
 again-long : isLong scoring lent ≡ true
@@ -233,7 +233,7 @@ again =
     }
 
 neither : after sound scoring (wholeRead 0 (7 ∷ 7 ∷ [])) (worldAfter again []) .answer ≡ Done (pos 0x423) 2
-unfolding again scoring after unless isLong isUnderway isRead isGathered isAllowed isBelow isAbove inRange encode decode variableCount registerCount registerWidth registerHas parameterOf offsetOf isDot isOne kindOf variableHas joined downFrom bitsOf size placeOf without mentions registersOf bit numberOf ownBit otherBit settingsBit settingsByte writtenByte gatheredBit gather put answers lastWhere reached
+unfolding again scoring after unless isLong isUnderway isRead isGathered isAllowed isBelow isAbove inRange encode decode variableCount registerCount registerWidth registerHas parameterOf offsetOf isDot isOne kindOf variableHas joined downFrom bitsOf size placeOf without mentions registersOf bit numberOf ownBit otherBit settingsBit settingsByte writtenByte gatheredBit gather put answers lastWhere reached obeys
 neither =
     ap (λ (w : World). w .answer) (after-passed scoring scoring-sound (wholeRead 0 (7 ∷ 7 ∷ [])) (opened sound scoring lostPower lent))
     ∙ ap (λ (w : World). after passed scoring (wholeRead 0 (7 ∷ 7 ∷ [])) w .answer) (opened-passed scoring scoring-sound lostPower lent)

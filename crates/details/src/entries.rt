@@ -2,6 +2,7 @@
 ghost use mathlib.Core.Path.{_≡_};
 ghost use Prim.Native.Nat.{_+_, _*_, _<_, _^_};
 ghost use lib.Dec.{eqb};
+ghost use Rattle.bits.specs.Bits.{bit};
 ghost use Rattle.tables.specs.Every.{Word};
 ghost use lib.ListN.{getD};
 ghost use Rattle.tables.specs.Tables.{countOf, parameterAt, parameterWidth, rangeCount, rangeOf, registerAt, registerWidth, registerPart, registerPartOf, variableAt, variablePart, variablePartOf, kindOf, widthOf, volatileOf};
@@ -122,6 +123,21 @@ fn part_from(first: usize, words: usize, part: Part) -> usize
     }
 }
 
+pub fn part_number(part: Part) -> usize
+    ensures { λ r. ⌜ r ≡ partNo part ⌝ }
+{
+    match part {
+        Part::Read => 0,
+        Part::Write => 1,
+    }
+}
+
+pub fn register_part(i: u32, part: Part) -> usize
+    ensures { λ r. ⌜ Stands (registerPart i (partNo part)) r ⌝ }
+{
+    part_from(15 * (i as usize) + 4, 6, part)
+}
+
 pub fn variable_part(v: u32, part: Part) -> usize
     ensures { λ r. ⌜ Stands (variablePart v (partNo part)) r ⌝ }
 {
@@ -160,6 +176,13 @@ pub fn register_word(registers: &[u32], i: u32, part: Part, k: u32) -> usize
     ensures { λ r. ⌜ Word (now (registers .entry)) (registerPart i (partNo part) + k) r ⌝ }
 {
     part_word(registers, 15 * (i as usize) + 4, 6, part, k)
+}
+
+// Bit b of word k of a part: of its dots, of what is fixed, of its ones.
+pub fn mask_bit(registers: &[u32], i: u32, part: Part, k: u32, b: u32) -> bool
+    ensures { λ r. ⌜ r ≡ bit b (getD (now (registers .entry)) (registerPart i (partNo part) + k) 0) ⌝ }
+{
+    bits::bit_of(register_word(registers, i, part, k), b as usize)
 }
 
 pub fn variable_word(variables: &[u32], v: u32, part: Part, k: u32) -> usize

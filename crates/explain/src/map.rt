@@ -5,6 +5,8 @@ use crate::parts::show_place;
 use crate::row::show_row;
 use crate::summary::show_variable;
 use crate::write::column;
+use crate::write::number;
+use crate::write::quoted;
 use crate::write::write;
 use details::entries::count_of;
 use details::entries::parameter_name;
@@ -12,6 +14,9 @@ use details::entries::register_has;
 use details::entries::register_name;
 use details::entries::same_place;
 use details::rows::same_register;
+use details::search::Test;
+use details::search::first_in;
+use details::search::serves_with;
 use rules::Judging;
 use rules::names::name_of;
 use tables::Part;
@@ -37,6 +42,25 @@ fn show_rows(text: &[u8], registers: &[u32], variables: &[u32], i: u32) {
     }
 }
 
+// , told from `low` by bit 7
+fn show_told(text: &[u8], registers: &[u32], i: u32, j: u32) {
+    if serves_with(registers, i, Part::Write, j) {
+        write(b", told from ");
+        quoted(register_name(text, registers, j));
+        write(b" by bit ");
+        number(first_in(registers, Test::Tells(i, Part::Write, j)) as usize);
+    }
+}
+
+// The registers before this one that share its write place.
+fn show_beside(text: &[u8], registers: &[u32], i: u32) {
+    let mut j: u32 = 0;
+    while j < i {
+        show_told(text, registers, i, j);
+        j += 1;
+    }
+}
+
 // high: base @ 0
 fn show_places(text: &[u8], parameters: &[u32], registers: &[u32], i: u32) {
     let read = register_has(registers, i, Part::Read);
@@ -57,6 +81,9 @@ fn show_places(text: &[u8], parameters: &[u32], registers: &[u32], i: u32) {
             write(b"write ");
             show_place(text, parameters, registers, i, Part::Write);
         }
+    }
+    if write_part {
+        show_beside(text, registers, i);
     }
     write(b"\n");
 }

@@ -7,7 +7,9 @@ use crate::write::number;
 use crate::write::purpose;
 use crate::write::quoted;
 use crate::write::write;
+use details::entries::mask_bit;
 use details::entries::parameter_name;
+use details::entries::part_number;
 use details::entries::register_has;
 use details::entries::register_name;
 use details::places::opening;
@@ -114,10 +116,49 @@ fn show_pairing(register: Register) {
     }
 }
 
+// `low` had `0` there
+fn show_wanted(text: &[u8], registers: &[u32], i: u32, one: bool) {
+    quoted(register_name(text, registers, i));
+    if one {
+        write(b" had `0` there");
+    } else {
+        write(b" had `1` there");
+    }
+}
+
+// A bit that is fixed in one mask and `*` in the other would do.
+fn show_chance(text: &[u8], registers: &[u32], i: u32, part: Part, j: u32) {
+    let b = first_in(registers, Test::CouldTell(i, part, j));
+    if b < 8 {
+        write(b"; bit ");
+        number(b as usize);
+        write(b" would tell them apart if ");
+        if mask_bit(registers, i, part, 4, b) {
+            show_wanted(text, registers, j, mask_bit(registers, i, part, 5, b));
+        } else {
+            show_wanted(text, registers, i, mask_bit(registers, j, part, 5, b));
+        }
+    }
+}
+
+// Write parts may share a place where a bit tells them apart; of read parts it is said that this does not help.
+fn show_apart(text: &[u8], registers: &[u32], i: u32, part: Part, j: u32) {
+    let b = first_in(registers, Test::Tells(i, part, j));
+    if b < 8 {
+        write(b"bit ");
+        number(b as usize);
+        write(b" tells their masks apart, but a place is shared for writing only\n");
+    } else if part_number(part) == 1 {
+        write(b"no bit is fixed 0 in one mask and 1 in the other");
+        show_chance(text, registers, i, part, j);
+        write(b"\n");
+    }
+}
+
 // base @ 0 serves `high` already for reading
 fn show_served(text: &[u8], parameters: &[u32], registers: &[u32], part: Part) {
     let i = last(registers);
-    let j = first_in(registers, Test::Serves(i, part));
+    let j = first_in(registers, Test::Clashes(i, part));
     if register_has(registers, i, part) & (j < i) {
         show_place(text, parameters, registers, i, part);
         write(b" serves ");
@@ -125,6 +166,7 @@ fn show_served(text: &[u8], parameters: &[u32], registers: &[u32], part: Part) {
         write(b" already");
         purpose(part);
         write(b"\n");
+        show_apart(text, registers, i, part, j);
     }
 }
 

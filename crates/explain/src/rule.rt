@@ -20,7 +20,9 @@ fn naming_rule(rule: u32) {
         9 => write(
             b"one port for both parts or one for each, and one mask of 8 elements for a part",
         ),
-        _ => write(b"a parameter and an offset serve one register in each part"),
+        _ => write(
+            b"a parameter and an offset serve one register in each part, or for writing several that fixed bits tell apart",
+        ),
     }
 }
 

@@ -11,14 +11,14 @@ use Rattle.marked.proofs.Rows.{AsStated, all-computed, in-parts}
 use Rattle.marked.proofs.Many.{sixty-four, sixty-five}
 
 -- all but the last two compute at once
-small : AsStated (take 19 marked)
+small : AsStated (take 22 marked)
 unfolding computing
-small = all-computed (take 19 marked)
+small = all-computed (take 22 marked)
 
 -- 64 registers, and one more
-large : AsStated (drop 19 marked)
+large : AsStated (drop 22 marked)
 unfolding marked answersTo
 large = ap₂ {C = List (Verdict × List Answer)} (λ (v w : Verdict). (v, []) ∷ (w, []) ∷ []) sixty-four sixty-five
 
 pub marked-cases : MarkedCases
-marked-cases = in-parts 19 marked small large
+marked-cases = in-parts 22 marked small large

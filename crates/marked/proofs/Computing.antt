@@ -25,8 +25,8 @@ use Rattle.syntax.specs.Text.{begins as begins-of-text, movedTo, counted as cou
 use Rattle.syntax.specs.Variable.{secondMarked as secondMarked-of-variable, secondAfter, restAfter as restAfter-of-variable, variableAfter}
 use Rattle.tables.specs.Every.{every, some, firstOf}
 use Rattle.tables.specs.Marks.{downFrom, joined, has, meets, distinct}
-use Rattle.tables.specs.Rules.{rangesFit, parameterFault, offsetIn, placed, placeTaken, registerFault, onDots, pieceFits, partMaps, widthFits, typeFits, volatileFits, ownFault, mappedBefore, triggerShared, variableFault, covered}
-use Rattle.tables.specs.View.{registerCount, registerWidth, registerHas, parameterOf, offsetOf, isDot, isOne, variableCount, kindOf, variableHas, bitsOf, size, placeOf, without, mentions, registersOf}
+use Rattle.tables.specs.Rules.{rangesFit, parameterFault, offsetIn, placed, toldApart, placeTaken, registerFault, onDots, pieceFits, partMaps, widthFits, typeFits, volatileFits, ownFault, mappedBefore, triggerShared, variableFault, covered}
+use Rattle.tables.specs.View.{registerCount, registerWidth, registerHas, parameterOf, offsetOf, isDot, isOne, obeys, variableCount, kindOf, variableHas, bitsOf, size, placeOf, without, mentions, registersOf}
 use Rattle.rules.specs.Fault.{noFault, faultIf, only, isFault, orElse}
 use Rattle.rules.specs.Lists.{pieceNamed, unknownIn, pieceWords, piecesOn, allHave, listFor, partWords}
 use Rattle.rules.specs.Mask.{isElement, maskText, elements, maskOf}
@@ -65,7 +65,7 @@ declarations = tt
 
 -- the words of tables, and the rules that they can break
 unfoldable pub entries : Unit {0}
-unfolding every some firstOf downFrom joined has meets distinct rangesFit parameterFault offsetIn placed placeTaken registerFault onDots pieceFits partMaps widthFits typeFits volatileFits ownFault mappedBefore triggerShared variableFault covered registerCount registerWidth registerHas parameterOf offsetOf isDot isOne variableCount kindOf variableHas bitsOf size placeOf without mentions registersOf
+unfolding every some firstOf downFrom joined has meets distinct rangesFit parameterFault offsetIn placed toldApart placeTaken registerFault onDots pieceFits partMaps widthFits typeFits volatileFits ownFault mappedBefore triggerShared variableFault covered registerCount registerWidth registerHas parameterOf offsetOf isDot isOne variableCount kindOf variableHas bitsOf size placeOf without mentions registersOf
 entries = tt
 
 -- the rules of one declaration
@@ -80,7 +80,7 @@ loading = tt
 
 -- the calls of a station, and the board before it
 unfoldable pub calls : Unit {0}
-unfolding unless isLong-of-calls isUnderway isRead isGathered isAllowed ownBit otherBit settingsBit settingsByte writtenByte gatheredBit gather put answers lastWhere reached
+unfolding unless isLong-of-calls isUnderway isRead isGathered isAllowed ownBit otherBit settingsBit settingsByte writtenByte gatheredBit gather put answers lastWhere reached obeys
 calls = tt
 
 -- the table

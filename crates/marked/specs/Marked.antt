@@ -1,4 +1,4 @@
--- The marked cases of document 01 ("The verdict program and its cases"), in its order: one table under one claim. Each case begins with a text. Loading it
+-- The marked cases of document 01 ("The verdict program and its cases"), in its order, with those that 02 adds: one table under one claim. Each case begins with a text. Loading it
 -- gives a verdict; and where 01 goes on to bytes and values, the tables that loading left are the ones that the station's calls get. proofs/Cases.antt proves
 -- the claim, which is about the very definitions that the contracts of `load` and of the station's calls cite.
 -- Assumes nothing.
@@ -52,6 +52,12 @@ at-offset offset = bytes "device d(base:bit[8] port@{0..3}){register r=base@" ++
 abbrev pub masked : List ℕ
 masked = bytes "device d(base:bit[8] port){register r=base,mask '1..00000':bit[8];variable v=r[6..5]:int(2);}"
 
+-- two registers written at one place, with these masks
+abbrev pub sharing : String → String → List ℕ
+sharing one other =
+    bytes "device d(b:bit[8] port){register p=write b,mask '" ++ bytes one ++ bytes "':bit[8];register q=write b,mask '" ++ bytes other ++
+    bytes "':bit[8];variable v=p[6..5]:int(2);variable w=q[4]:bool;}"
+
 -- signed x = hi[3..0] # lo[3..0], masks `****....`
 abbrev pub joint : List ℕ
 joint =
@@ -98,6 +104,7 @@ any = 7
 abbrev pub -2 : ℤ
 -2 = negsuc 1
 
+-- behind 01's case of mask `1..00000` stand those of 02, No. 2: that mask and `000.0000` at one write place, a pair without such a bit, and read parts
 unfoldable pub marked : List Case
 marked =
     loads (with-variables "variable v=r:int(8);") (Accepted 1 1 1)
@@ -114,6 +121,10 @@ marked =
     ∷ loads (at-offset "1-2") (Refused 8 49)
     ∷ loads (at-offset "7/0") (Refused 8 49)
     ∷ runs masked (Accepted 1 1 1) (0 ∷ []) (wholeWrite 0 (pos 2) (any ∷ []) ++ BeginWrite 0 (pos 4) ∷ []) (writes 0 0xC0 ∷ Done (pos 2) 1 ∷ CallRefused 55 ∷ [])
+    ∷ runs (sharing "1..00000" "000.0000") (Accepted 1 2 2) (0xFF ∷ 0xFF ∷ []) (wholeWrite 0 (pos 1) (any ∷ []) ++ wholeWrite 1 (pos 1) (any ∷ []))
+    (writes 0 0xA0 ∷ Done (pos 1) 1 ∷ writes 0 0x10 ∷ Done (pos 1) 1 ∷ [])
+    ∷ loads (sharing "1..*****" "*00.0000") (Refused 10 75)
+    ∷ loads (bytes "device d(b:bit[8] port){register p=b,mask '1*******':bit[8];register q=b,mask '0*******':bit[8];}") (Refused 10 69)
     ∷ runs joint (Accepted 1 2 1) (0 ∷ 0 ∷ []) (wholeWrite 0 -2 (any ∷ any ∷ [])) (writes 0 0x0F ∷ writes 1 0x0E ∷ Done -2 2 ∷ [])
     ∷ runs joint (Accepted 1 2 1) (0xAF ∷ 0x5E ∷ []) (wholeRead 0 (any ∷ any ∷ [])) (reads 0 ∷ reads 1 ∷ Done -2 2 ∷ [])
     ∷ runs nibbles (Accepted 1 1 2) (0xA5 ∷ []) (wholeWrite 0 (pos 3) (any ∷ []) ++ wholeRead 1 (any ∷ [])) (writes 0 0xA3 ∷ Done (pos 3) 1 ∷ reads 0 ∷ Done (pos 10) 1 ∷ [])

@@ -1,20 +1,21 @@
 -- The masks of sound tables: each element is one of `.`, `0`, `1` and `*`. A dot is not fixed, and what is `1` is fixed, so it is no dot.
-use Prim.Native.Nat.{ℕ, _<_}
+use Prim.Native.Nat.{ℕ, _<_, _≤_}
 use native.Mathlib.Omega.{arith}
 use mathlib.Core.Path.{_≡_, refl, sym, ap, _∙_}
 use mathlib.Core.Bool.{Bool, true, false, _&&_, _||_, cond, true≢false, false≢true}
 use mathlib.Core.List.{List}
 use lib.Bits.{bitAnd}
 use lib.Dec.{eqb, leb, ltb}
-use borrow.Author.Tests.{eqb-true}
+use borrow.Author.Tests.{eqb-true, eq-eqb, leb-true, ltb-true, ltb-false}
 use Rattle.bits.specs.Bits.{bit}
-use Rattle.bits.proofs.MaskLaws.{bits-apart, bits-inside, bit-none}
+use Rattle.bits.proofs.BitLaws.{bit-over}
+use Rattle.bits.proofs.MaskLaws.{bit-and, bits-apart, bits-inside, bit-none, same-bits}
 use Rattle.tables.specs.Every.{every, zeros}
 use Rattle.tables.specs.Tables.{countOf, RegisterPart, registerPartIn, registerPartOf, registerPart}
 use Rattle.tables.specs.Rules.{masksFit, registerPartShape, registerShape, parameterShape, variableShape}
 use Rattle.tables.specs.Sound as S
 use Rattle.tables.specs.Sound.{tablesFit, restZero, shapesFit, rulesKept}
-use Rattle.tables.specs.View.{Tables, Part, reading, writing, partNo, sound, registerCount, isDot, isOne}
+use Rattle.tables.specs.View.{Tables, Part, reading, writing, partNo, sound, registerCount, isDot, isOne, isFixed, obeys}
 use Rattle.tables.proofs.Laws.{every-at}
 use Rattle.tables.proofs.ZeroLaws.{zeros-at}
 use Rattle.logic.proofs.Tests.{and-left, and-right}
@@ -23,6 +24,14 @@ use Rattle.logic.proofs.Tests.{and-left, and-right}
 pub record Elements (part : RegisterPart) : Type 0 where
   pub dot-not-fixed : (b : ℕ) → bit b (part .dots) ≡ true → bit b (part .fixed) ≡ false
   pub one-is-fixed : (b : ℕ) → bit b (part .ones) ≡ true → bit b (part .fixed) ≡ true
+  pub fixed-in-byte : (b : ℕ) → bit b (part .fixed) ≡ true → b < 8
+
+narrow-bit : (b n : ℕ) → n ≤ 255 → bit b n ≡ true → b < 8
+narrow-bit b n h on = go (ltb b 8) refl
+  where
+    go : (inside : Bool) → ltb b 8 ≡ inside → b < 8
+    go true e = ltb-true b 8 e
+    go false e = absurd (true≢false (sym on ∙ bit-over 8 b n (omega arith) (ltb-false b 8 e)))
 
 by-masks : (part : RegisterPart) → masksFit part ≡ true → Elements part
 by-masks part h =
@@ -30,6 +39,7 @@ by-masks part h =
     let apart = eqb (bitAnd (part .dots) (part .fixed)) 0 in
     let inside = eqb (bitAnd (part .ones) (part .fixed)) (part .ones) in
     record {
+      fixed-in-byte = λ b. narrow-bit b (part .fixed) (leb-true _ _ (and-right (leb (part .dots) 255) (leb (part .fixed) 255) (and-left small apart (and-left (small && apart) inside h))));
       dot-not-fixed = bits-apart (part .dots) (part .fixed) (eqb-true _ 0 (and-right small apart (and-left (small && apart) inside h)));
       one-is-fixed = bits-inside (part .ones) (part .fixed) (eqb-true _ (part .ones) (and-right (small && apart) inside h));
     }
@@ -46,9 +56,21 @@ part-elements ps rs at h = go (registerPartIn rs at .present) h
     go true e = by-masks (registerPartIn rs at) (and-right (ltb (registerPartIn rs at .parameter) (countOf ps)) _ e)
     go false e =
         record {
+          fixed-in-byte = λ b d. absurd (no-bit b _ (zeros-at rs at 6 e 4 (omega arith)) d);
           dot-not-fixed = λ b d. absurd (no-bit b _ (zeros-at rs at 6 e 3 (omega arith)) d);
           one-is-fixed = λ b d. absurd (no-bit b _ (zeros-at rs at 6 e 5 (omega arith)) d);
         }
+
+-- a byte obeys a mask exactly when it has, at each fixed bit, what is fixed there
+pub obeys-by-bits : (t : Tables) (part : Part) (r byte : ℕ) → ((b : ℕ) → (bit b byte && isFixed t part r b) ≡ isOne t part r b) → obeys t part r byte ≡ true
+unfolding obeys isFixed isOne
+obeys-by-bits t part r byte has = eq-eqb _ _ (same-bits _ _ (λ b. bit-and b byte _ ∙ has b))
+
+pub obeyed-bits : (t : Tables) (part : Part) (r byte : ℕ) → obeys t part r byte ≡ true → (b : ℕ) → (bit b byte && isFixed t part r b) ≡ isOne t part r b
+unfolding obeys isFixed isOne
+obeyed-bits t part r byte h b =
+    let mask = registerPartOf (t .registers) (partNo part) r in
+    sym (bit-and b byte (mask .fixed)) ∙ ap (bit b) (eqb-true (bitAnd byte (mask .fixed)) (mask .ones) h)
 
 module _ (t : Tables) (ok : sound t ≡ true) where
   register-shape : (r : ℕ) → r < registerCount t → registerShape (t .parameters) (t .registers) r ≡ true
@@ -77,11 +99,23 @@ module _ (t : Tables) (ok : sound t ≡ true) where
       pick reading = part-elements (t .parameters) (t .registers) (registerPart r 0) (and-left (shape 0) (shape 1) both)
       pick writing = part-elements (t .parameters) (t .registers) (registerPart r 1) (and-right (shape 0) (shape 1) both)
 
-  -- a `1` is no dot: the byte written takes each of its bits from one place
-  pub one-no-dot : (part : Part) (r b : ℕ) → r < registerCount t → isOne t part r b ≡ true → isDot t part r b ≡ false
-  unfolding isOne isDot
-  one-no-dot part r b l one = go (bit b (registerPartOf (t .registers) (partNo part) r .dots)) refl
+  -- a fixed bit is a bit of the register, and no dot
+  pub fixed-inside : (part : Part) (r b : ℕ) → r < registerCount t → isFixed t part r b ≡ true → b < 8
+  unfolding isFixed
+  fixed-inside part r b l on = elements part r l .fixed-in-byte b on
+
+  pub fixed-no-dot : (part : Part) (r b : ℕ) → r < registerCount t → isFixed t part r b ≡ true → isDot t part r b ≡ false
+  unfolding isFixed isDot
+  fixed-no-dot part r b l on = go (bit b (registerPartOf (t .registers) (partNo part) r .dots)) refl
     where
       go : (d : Bool) → bit b (registerPartOf (t .registers) (partNo part) r .dots) ≡ d → d ≡ false
-      go true e = absurd (true≢false (sym (elements part r l .one-is-fixed b one) ∙ elements part r l .dot-not-fixed b e))
+      go true e = absurd (true≢false (sym on ∙ elements part r l .dot-not-fixed b e))
       go false e = refl
+
+  pub one-fixed : (part : Part) (r b : ℕ) → r < registerCount t → isOne t part r b ≡ true → isFixed t part r b ≡ true
+  unfolding isFixed isOne
+  one-fixed part r b l one = elements part r l .one-is-fixed b one
+
+  -- a `1` is no dot: the byte written takes each of its bits from one place
+  pub one-no-dot : (part : Part) (r b : ℕ) → r < registerCount t → isOne t part r b ≡ true → isDot t part r b ≡ false
+  one-no-dot part r b l one = fixed-no-dot part r b l (one-fixed part r b l one)

@@ -10,9 +10,9 @@ use lib.ListN.{getD, length}
 use borrow.Author.Tests.{leb-true}
 use Rattle.tables.specs.Every.{every, zeros}
 use Rattle.tables.specs.Marks.{distinct, joined, meets}
-use Rattle.tables.specs.Tables.{bitsOf, kindOf, mentionedBy, parameterAt, pieceAt, pieceBits, pieceIn, rangeAt, rangeCount, rangeIn, registerAt, registerPart, registerPartIn, variableAt, variablePart, variablePartIn, volatileOf, widthOf}
+use Rattle.tables.specs.Tables.{bitsOf, kindOf, mentionedBy, parameterAt, pieceAt, pieceBits, pieceIn, rangeAt, rangeCount, rangeIn, registerAt, registerPart, registerPartIn, registerPartOf, variableAt, variablePart, variablePartIn, volatileOf, widthOf}
 use Rattle.tables.specs.Words.{pieceCount, pieceHigh, pieceRegister, present, triggerOf}
-use Rattle.tables.specs.Rules.{mappedBefore, ownFault, parameterFault, parameterShape, partMaps, pieceFits, placeTaken, placed, rangeFits, rangesFit, registerFault, registerPartShape, registerShape, triggerShared, typeFits, variableFault, variablePartShape, variableShape, volatileFits, widthFits}
+use Rattle.tables.specs.Rules.{clashes, mappedBefore, ownFault, parameterFault, parameterShape, partMaps, pieceFits, placeTaken, placed, rangeFits, rangesFit, registerFault, registerPartShape, registerShape, toldApart, triggerShared, typeFits, variableFault, variablePartShape, variableShape, volatileFits, widthFits}
 use Rattle.tables.specs.Scan.{entersOf, narrow, pieceEnters}
 use Rattle.tables.specs.Sound.{parameterGood, registerGood, variableGood}
 use Rattle.tables.proofs.Laws.{every-same, some-same}
@@ -95,12 +95,28 @@ module _ (ps a b : List ℕ) (i : ℕ) (same : Alike (registerAt (suc i)) a b) w
   placed-same p h =
       rw (part-present i p (omega arith) h, part-word i p 1 (omega arith) h (omega arith), part-word i p 2 (omega arith) h (omega arith))
 
+  -- two parts that stand at the same words of both lists clash in both, or in neither
+  clash-same : (j p : ℕ) → j ≤ i → p < 2 → clashes p (registerPartOf a p i) (registerPartOf a p j) ≡ clashes p (registerPartOf b p i) (registerPartOf b p j)
+  unfolding toldApart
+  clash-same j p l h =
+      rw (
+        part-word i p 1 (omega arith) h (omega arith),
+        part-word i p 2 (omega arith) h (omega arith),
+        part-word i p 4 (omega arith) h (omega arith),
+        part-word i p 5 (omega arith) h (omega arith),
+        part-present j p l h,
+        part-word j p 1 l h (omega arith),
+        part-word j p 2 l h (omega arith),
+        part-word j p 4 l h (omega arith),
+        part-word j p 5 l h (omega arith),
+      )
+
   taken-same : (p : ℕ) → p < 2 → placeTaken a p i ≡ placeTaken b p i
   unfolding placeTaken
   taken-same p h =
-      rw (part-present i p (omega arith) h, part-word i p 1 (omega arith) h (omega arith), part-word i p 2 (omega arith) h (omega arith))
-      (ap (λ (t : Bool). present b (registerPart i p) && t)
-      (some-same i _ _ (λ j l. rw (part-present j p (omega arith) h, part-word j p 1 (omega arith) h (omega arith), part-word j p 2 (omega arith) h (omega arith)))))
+      ap₂ _&&_ (ap (λ (w : ℕ). eqb w 1) (part-present i p (omega arith) h))
+      (some-same i (λ j. clashes p (registerPartOf a p i) (registerPartOf a p j)) (λ j. clashes p (registerPartOf b p i) (registerPartOf b p j))
+      (λ j l. clash-same j p (omega arith) h))
 
   pub register-fault-same : registerFault ps a i ≡ registerFault ps b i
   unfolding registerFault

@@ -1,9 +1,9 @@
--- Rule 10 by slots: where no register before has a register's slot, none serves its place.
+-- Rule 10 by slots: where no register before has a register's slot, none serves its place, so none clashes with it.
 use Prim.Native.Nat.{ℕ, _+_, _*_, _%_}
 use native.Mathlib.Omega.{arith}
 use native.Mathlib.Nat.{mod-lt}
 use mathlib.Core.Path.{_≡_, refl, sym, ap, ap₂, _∙_}
-use mathlib.Core.Bool.{Bool, true, false, _&&_, _||_, and-false, false≢true}
+use mathlib.Core.Bool.{Bool, true, false, _&&_, _||_, not, and-false, false≢true}
 use mathlib.Core.List.{List, [], _∷_}
 use lib.ListN.{getD, set}
 use lib.Dec.{eqb}
@@ -11,7 +11,7 @@ use borrow.Author.Tests.{eq-eqb, eqb-true, not-true}
 use Rattle.tables.specs.Every.{some}
 use Rattle.tables.specs.Marks.{has, marks}
 use Rattle.tables.specs.Tables.{RegisterPart, registerPartOf}
-use Rattle.tables.specs.Rules.{placeTaken, registerFault, serves}
+use Rattle.tables.specs.Rules.{clashes, placeTaken, registerFault, serves, toldApart}
 use Rattle.tables.specs.Scan.{faultBy, slotMap, placeSlot}
 use Rattle.tables.proofs.Laws.{some-none-at, some-nowhere}
 use Rattle.tables.proofs.MapLaws.{map-more, map-seen}
@@ -38,8 +38,10 @@ slot-new rs p i m s e t =
     let slots : ℕ → List ℕ = λ j. placeSlot (registerPartOf rs p j) ∷ [] in
     let seen : eqb (getD (slotMap rs p i) (placeSlot here) 0) 0 ≡ true = sym (e ∙ ap₂ (λ (w : List ℕ) (k : ℕ). eqb (getD w k 0) 0) m s) ∙ t in
     let none : some i (λ j. has (placeSlot here) (slots j)) ≡ false = not-true _ (sym (map-seen 256 slots i (placeSlot here) (mod-lt _ (omega arith))) ∙ seen) in
-    let nobody : some i (λ j. serves (registerPartOf rs p j) (here .parameter) (here .offset)) ≡ false =
-    some-nowhere i (λ j. serves (registerPartOf rs p j) (here .parameter) (here .offset)) (λ j l. other-slot (registerPartOf rs p j) here (or-left _ false (some-none-at i (λ k. has (placeSlot here) (slots k)) none j l))) in
+    let nobody : some i (λ j. clashes p here (registerPartOf rs p j)) ≡ false =
+    some-nowhere i (λ j. clashes p here (registerPartOf rs p j))
+    (λ j l. ap (λ (b : Bool). b && not (eqb p 1 && toldApart here (registerPartOf rs p j)))
+    (other-slot (registerPartOf rs p j) here (or-left _ false (some-none-at i (λ k. has (placeSlot here) (slots k)) none j l)))) in
     sym (ap (λ (b : Bool). here .present && b) nobody ∙ and-false (here .present))
 
 -- the map with a register more

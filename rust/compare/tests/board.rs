@@ -44,6 +44,7 @@ fn reading_gives_the_value_last_finished() {
         ["read back", "half-written", "abandoned"],
         1000,
     );
+    seen.require("those of shared places", ["from a shared place"], 100);
 }
 
 /// "Start two boards from equal power-on bytes and write every plain variable once, each value in

@@ -47,7 +47,8 @@ refusals! {
         parameter's set; in a parameter, an offset over 255 or a range going down";
     Ports = 9, "a bad pairing of ports; a mask that has not 8 elements; two masks for one part; a \
         mask for a missing part";
-    Place = 10, "the part's parameter and offset already serve that part of an earlier register";
+    Place = 10, "the part's parameter and offset already serve that part of an earlier register; \
+        of two write parts, unless some bit is fixed 0 in one mask and 1 in the other";
     Bits = 11, "a bit over 7; a rising range; a bit twice in one part; a bit that is not a dot in \
         that part's mask; a register without that part; a bad pairing of bit lists; a bare list \
         with neither part; over 32 bits";

@@ -4,7 +4,7 @@
 use std::collections::HashMap;
 
 use crate::generate::Random;
-use crate::{Access, Answer, Description, Kind, Part, Variable};
+use crate::{Access, Answer, Description, Kind, Mask, Part, Variable};
 
 /// A station's five calls, whoever answers them.
 pub trait Calls {
@@ -15,11 +15,12 @@ pub trait Calls {
     fn abandon(&mut self) -> Answer;
 }
 
-/// A cell for each register: a write at its write place sets it, a read at its read place gives it.
+/// A cell for each register: a read at its read place gives it. A byte written goes to the one
+/// register at that write place whose fixed bits it matches.
 pub struct Board {
     pub cells: Vec<u8>,
     reads: HashMap<(usize, u32), usize>,
-    writes: HashMap<(usize, u32), usize>,
+    writes: HashMap<(usize, u32), Vec<(usize, Mask)>>,
 }
 
 impl Board {
@@ -34,19 +35,28 @@ impl Board {
                 board.reads.insert((port.parameter, port.offset), index);
             }
             if let Some(port) = register.write {
-                board.writes.insert((port.parameter, port.offset), index);
+                let place = (port.parameter, port.offset);
+                let there = board.writes.entry(place).or_default();
+                there.push((index, port.mask));
             }
         }
         board
     }
 
-    /// Performs an access; gives the byte for its confirmation, which is ignored after a write.
+    /// Performs an access; gives the byte for its confirmation, which is ignored after a write. A
+    /// byte that no register takes, or more than one, is a fault of the station or the tables.
     pub fn perform(&mut self, access: Access) -> u8 {
         let place = (access.parameter, access.offset);
         match access.direction {
             Part::Read => self.cells[self.reads[&place]],
             Part::Write => {
-                self.cells[self.writes[&place]] = access.byte;
+                let there = self.writes[&place].iter();
+                let takers: Vec<usize> = there
+                    .filter(|(_, mask)| mask.fits(access.byte))
+                    .map(|(register, _)| *register)
+                    .collect();
+                assert_eq!(takers.len(), 1, "{takers:?} take {access:?}");
+                self.cells[takers[0]] = access.byte;
                 0x99
             }
         }
@@ -61,6 +71,16 @@ pub fn plain(variable: &Variable) -> bool {
         }
         _ => false,
     }
+}
+
+/// Whether a register that the variable writes shares its write place with another one.
+pub fn shares_a_place(description: &Description, variable: &Variable) -> bool {
+    let pairs = description.beside();
+    let mut pieces = variable.write.iter().flat_map(|bits| &bits.pieces);
+    pieces.any(|piece| {
+        let of = |pair: &(usize, usize)| pair.0 == piece.register || pair.1 == piece.register;
+        pairs.iter().any(of)
+    })
 }
 
 /// The value that bytes hold for a variable with a read part, worked out bit by bit.
@@ -173,7 +193,11 @@ pub fn watch(
         } else {
             let begun = station.begin_read(index);
             let ended = to_its_end(random, station, &mut board, begun, 6);
-            note(seen_of(known[index], ended));
+            let seen = seen_of(known[index], ended);
+            note(seen);
+            if seen == "read back" && shares_a_place(description, variable) {
+                note("from a shared place");
+            }
         }
     }
 }
@@ -195,5 +219,35 @@ fn seen_of(known: Option<Known>, ended: Ended) -> &'static str {
         }
         (Some(_), Ended::Refused(number)) => panic!("refused {number}"),
         (None, _) => "not plain",
+    }
+}
+
+#[cfg(test)]
+mod tests {
+    use super::*;
+    use crate::load::{load, Verdict};
+
+    #[test]
+    fn a_byte_goes_to_the_register_that_it_matches() {
+        let text = b"device d(b:bit[8] port@{0..2}){register p=write b@2,mask '1*******':bit[8];\
+            register q=write b@2,mask '0*****1*':bit[8];register r=write b@2,mask '00****0*':bit[8];\
+            register s=write b@1,mask '1*******':bit[8];}";
+        let Verdict::Accepted { description } = load(text) else {
+            panic!("it is accepted");
+        };
+        let mut board = Board::new(&description, &[1, 2, 3, 4]);
+        let mut write = |offset, byte| {
+            board.perform(Access {
+                direction: Part::Write,
+                parameter: 0,
+                offset,
+                byte,
+            });
+            board.cells.clone()
+        };
+        assert_eq!(write(2, 0xFF), [0xFF, 2, 3, 4]);
+        assert_eq!(write(2, 0x42), [0xFF, 0x42, 3, 4]);
+        assert_eq!(write(2, 0x3D), [0xFF, 0x42, 0x3D, 4]);
+        assert_eq!(write(1, 0x80), [0xFF, 0x42, 0x3D, 0x80]);
     }
 }

@@ -108,6 +108,22 @@ impl Parameter {
     }
 }
 
+impl Description {
+    /// The pairs of registers that share a write place, the later one first.
+    pub fn beside(&self) -> Vec<(usize, usize)> {
+        let place = |register: usize| {
+            let port = self.registers[register].write.as_ref();
+            port.map(|port| (port.parameter, port.offset))
+        };
+        let mut pairs = Vec::new();
+        for later in 0..self.registers.len() {
+            let same = |earlier: &usize| place(later).is_some() && place(*earlier) == place(later);
+            pairs.extend((0..later).filter(same).map(|earlier| (later, earlier)));
+        }
+        pairs
+    }
+}
+
 impl Register {
     pub fn part(&self, part: Part) -> Option<&Port> {
         match part {
@@ -142,6 +158,16 @@ impl Mask {
         fixed: 0,
         ones: 0,
     };
+
+    /// Whether some bit is fixed 0 in one of the two masks and 1 in the other: no byte fits both.
+    pub fn told_from(&self, other: &Mask) -> bool {
+        self.fixed & other.fixed & (self.ones ^ other.ones) != 0
+    }
+
+    /// Whether a byte has the mask's fixed bits.
+    pub fn fits(&self, byte: u8) -> bool {
+        byte & self.fixed == self.ones
+    }
 
     /// The mask that a bits literal of eight elements gives; the rightmost is for bit 0.
     pub fn of(elements: &[u8]) -> Option<Mask> {
@@ -179,5 +205,23 @@ mod tests {
         assert_eq!(Mask::of(b"........"), Some(Mask::DOTS));
         assert_eq!(Mask::of(b"1.00000"), None);
         assert_eq!(Mask::of(b"........."), None);
+    }
+
+    /// Over every pair of masks, a bit of each: two are told apart exactly when no byte fits both.
+    #[test]
+    fn told_apart() {
+        let elements = |code: usize| [b'0', b'1', b'*', b'.'][code % 4];
+        for code in 0..256 {
+            let mut one = *b"***.****";
+            let mut other = *b"..*.***.";
+            one[1] = elements(code);
+            other[1] = elements(code / 4);
+            one[6] = elements(code / 16);
+            other[6] = elements(code / 64);
+            let [one, other] = [one, other].map(|mask| Mask::of(&mask).unwrap());
+            let both = (0..=255).any(|byte| one.fits(byte) && other.fits(byte));
+            assert_eq!(one.told_from(&other), !both, "{one:?} {other:?}");
+            assert_eq!(other.told_from(&one), !both);
+        }
     }
 }

@@ -1,6 +1,6 @@
 //! Devil descriptions and the station, a second time.
 //!
-//! This crate is written from the papers alone (documents 01, 001 and 003), so that it can be held
+//! This crate is written from the papers alone (documents 01, 02, 001 and 003), so that it can be held
 //! against the proved implementation: where the two differ, the papers decide.
 
 pub mod board;

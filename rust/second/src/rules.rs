@@ -3,7 +3,7 @@
 //! Each declaration is judged against those before it, lowest number first. Only the first rule
 //! broken in the whole text is ever asked for, so judging stops there.
 
-use std::collections::{HashMap, HashSet};
+use std::collections::HashMap;
 
 use crate::description::{
     Bits, Description, Kind, Mask, Name, OffsetRange, Parameter, Part, Piece, Port, Register,
@@ -35,7 +35,6 @@ struct Held {
 pub struct Judge<'t> {
     text: &'t [u8],
     names: HashMap<&'t [u8], Entity>,
-    places: HashSet<(Part, usize, u32)>,
     held: [[Held; REGISTERS]; 2],
     description: Description,
 }
@@ -72,7 +71,6 @@ impl<'t> Judge<'t> {
         Judge {
             text,
             names: HashMap::with_capacity(1 + PARAMETERS + REGISTERS + VARIABLES),
-            places: HashSet::with_capacity(2 * REGISTERS),
             held: [[Held::default(); REGISTERS]; 2],
             description: Description::default(),
         }
@@ -164,24 +162,30 @@ impl<'t> Judge<'t> {
             write: port(write, write_mask),
         };
 
-        for part in PARTS {
-            if let Some(port) = judged.part(part) {
-                if self.places.contains(&(part, port.parameter, port.offset)) {
-                    return refused(10, name);
-                }
-            }
+        if self.clashes(&judged) {
+            return refused(10, name);
         }
         if judged.width != 8 {
             return refused(12, name);
         }
 
-        for part in PARTS {
-            if let Some(port) = judged.part(part) {
-                self.places.insert((part, port.parameter, port.offset));
-            }
-        }
         self.description.registers.push(judged);
         Ok(())
+    }
+
+    /// Rule 10: a part's place is that of the same part of an earlier register. Write parts may share
+    /// one where their masks tell them apart.
+    fn clashes(&self, register: &Register) -> bool {
+        let taken = |part: Part, port: &Port| {
+            let earlier = self.description.registers.iter();
+            earlier
+                .filter_map(|other| other.part(part))
+                .filter(|other| (other.parameter, other.offset) == (port.parameter, port.offset))
+                .any(|other| part == Part::Read || !other.mask.told_from(&port.mask))
+        };
+        PARTS
+            .into_iter()
+            .any(|part| register.part(part).is_some_and(|port| taken(part, port)))
     }
 
     /// Rule 7 of a port: its name is that of an earlier parameter.

@@ -117,17 +117,22 @@ fn port_good(port: &[u32], parameters: &[&[u32]]) -> bool {
 
 /// Rule 10.
 fn places_differ(registers: &[&[u32]]) -> bool {
-    let place = |index: usize, part| {
-        let port = port(registers[index], part);
-        (port[0] == 1).then(|| (port[1], port[2]))
-    };
     (0..2).all(|part| {
         (0..registers.len()).all(|later| {
             (0..later).all(|earlier| {
-                place(later, part).is_none() || place(later, part) != place(earlier, part)
+                let (one, other) = (port(registers[earlier], part), port(registers[later], part));
+                let absent = one[0] == 0 || other[0] == 0;
+                absent || one[1..3] != other[1..3] || (part == 1 && told_apart(one, other))
             })
         })
     })
+}
+
+/// Whether some bit is fixed 0 in one port's mask and 1 in the other's.
+fn told_apart(one: &[u32], other: &[u32]) -> bool {
+    let zero = |port: &[u32], bit: u32| port[4] >> bit & 1 == 1 && port[5] >> bit & 1 == 0;
+    let set = |port: &[u32], bit: u32| port[4] >> bit & 1 == 1 && port[5] >> bit & 1 == 1;
+    (0..8).any(|bit| zero(one, bit) && set(other, bit) || set(one, bit) && zero(other, bit))
 }
 
 /// Part 0 of a variable is its read part, part 1 its write part.
@@ -385,6 +390,51 @@ mod tests {
             tables[table][word] = value;
             assert_eq!(good(&tables), want, "table {table} word {word} to {value}");
         }
+    }
+
+    /// Two registers with both parts, at one write place, and a third that only writes there; no dots.
+    #[test]
+    fn one_write_place() {
+        let text = |masks: [&str; 3]| {
+            format!(
+                "device d(b:bit[8] port@{{0..2}}){{\
+                 register p=read b,write b@2,read mask '********',write mask '{}':bit[8];\
+                 register q=read b@1,write b@2,read mask '********',write mask '{}':bit[8];\
+                 register r=write b@2,mask '{}':bit[8];}}",
+                masks[0], masks[1], masks[2]
+            )
+        };
+        let tables = of(&text(["1*******", "0*****1*", "0*****0*"]));
+        assert!(good(&tables));
+        // The words of the write masks, fixed and ones, of p, q and r.
+        let mask = |register: usize| 1 + 15 * register + 9 + 4;
+        for (register, [fixed, ones], want) in [
+            (0, [0x80, 0x00], false),
+            (0, [0x00, 0x00], false),
+            (0, [0xFF, 0x80], true),
+            (0, [0x02, 0x02], false),
+            (0, [0x81, 0x01], false),
+            (1, [0x80, 0x00], false),
+            (1, [0x82, 0x82], false),
+            (1, [0x82, 0x80], false),
+            (1, [0x02, 0x02], false),
+            (2, [0x82, 0x02], false),
+            (2, [0x80, 0x00], false),
+            (2, [0x83, 0x00], true),
+        ] {
+            let mut tables = tables.clone();
+            tables[1][mask(register)..][..2].copy_from_slice(&[fixed, ones]);
+            assert_eq!(good(&tables), want, "{register}: {fixed:x} {ones:x}");
+        }
+        // No bit tells read parts apart: q's read place becomes p's.
+        let mut tables = tables.clone();
+        for (register, ones) in [(0, 0x00), (1, 0x80)] {
+            let read = 1 + 15 * register + 3;
+            tables[1][read + 4..][..2].copy_from_slice(&[0x80, ones]);
+        }
+        assert!(good(&tables));
+        tables[1][1 + 15 + 3 + 2] = 0;
+        assert!(!good(&tables));
     }
 
     #[test]

@@ -70,8 +70,8 @@ impl Calls for Station<'_> {
 #[test]
 fn reading_gives_the_value_last_finished() {
     let mut random = Random::new(11);
-    let mut reads = 0;
-    for _ in 0..60 {
+    let (mut reads, mut shared) = (0, 0);
+    for _ in 0..120 {
         let Verdict::Accepted { description } = load(&valid(&mut random)) else {
             panic!("a valid text is accepted");
         };
@@ -91,7 +91,8 @@ fn reading_gives_the_value_last_finished() {
         };
         watch(&mut random, &description, &mut station, 80, &mut |seen| {
             reads += usize::from(seen == "read back");
+            shared += usize::from(seen == "from a shared place");
         });
     }
-    assert!(reads > 300, "{reads}");
+    assert!(reads > 600 && shared > 20, "{reads}, {shared}");
 }

@@ -5,7 +5,10 @@ use second::generate::{
     verdict_number, written, Random,
 };
 use second::replay::{Call, Session};
-use second::{describe, load, load_into, lookup, sound, tables, Description, Verdict, TEXT_BYTES};
+use second::{
+    describe, load, load_into, lookup, scan, sound, tables, Description, Sign, Token, Verdict,
+    Word, TEXT_BYTES,
+};
 
 fn accepted(text: &[u8]) -> Description {
     match load(text) {
@@ -92,6 +95,42 @@ fn the_mixture_has_every_verdict() {
     }
 }
 
+/// A register that is only written, refused by rule 10: no bit tells it from another at its place.
+fn only_written(text: &[u8], place: usize) -> bool {
+    let mut words = Vec::new();
+    let mut at = place;
+    while let Ok(lexeme) = scan(text, at) {
+        at = lexeme.end;
+        match lexeme.token {
+            Token::Sign(Sign::Semicolon) | Token::End => break,
+            Token::Word(word) => words.push(word),
+            _ => {}
+        }
+    }
+    words[0] == Word::Write && !words.contains(&Word::Read)
+}
+
+/// Both sides of a shared write place come once in a hundred texts: registers that are told apart,
+/// and a register that is not.
+#[test]
+fn the_mixture_has_shared_places() {
+    let mut random = Random::new(4);
+    let (mut told, mut untold) = (0, 0);
+    for _ in 0..1500 {
+        let text = text(&mut random);
+        match load(&text) {
+            Verdict::Accepted { description } => {
+                told += usize::from(!description.beside().is_empty())
+            }
+            Verdict::Refused { number: 10, place } => {
+                untold += usize::from(only_written(&text, place))
+            }
+            Verdict::Refused { .. } => {}
+        }
+    }
+    assert!(told >= 15 && untold >= 15, "{told}, {untold}");
+}
+
 #[test]
 fn loading_into_tables_agrees_with_loading() {
     let mut random = Random::new(5);
@@ -124,16 +163,31 @@ fn loading_into_tables_agrees_with_loading() {
 #[test]
 fn damaged_tables_are_told_from_sound_ones() {
     let mut random = Random::new(6);
-    let mut unsound = 0;
-    for _ in 0..300 {
+    let (mut unsound, mut told, mut untold) = (0, 0, 0);
+    for _ in 0..600 {
         let set = sound_tables(&mut random);
         assert!(sound(&set.parameters, &set.registers, &set.variables));
         let set = damaged_tables(&mut random);
-        if !sound(&set.parameters, &set.registers, &set.variables) {
-            unsound += 1;
+        let is_sound = sound(&set.parameters, &set.registers, &set.variables);
+        unsound += usize::from(!is_sound);
+        let Some(description) = describe(&set.parameters, &set.registers, &set.variables) else {
+            continue;
+        };
+        let pairs = description.beside();
+        let mask = |register: usize| description.registers[register].write.unwrap().mask;
+        match pairs
+            .iter()
+            .all(|(one, other)| mask(*one).told_from(&mask(*other)))
+        {
+            true => told += usize::from(is_sound && !pairs.is_empty()),
+            false => {
+                assert!(!is_sound);
+                untold += 1;
+            }
         }
     }
-    assert!((150..300).contains(&unsound), "{unsound} of 300");
+    assert!((300..600).contains(&unsound), "{unsound} of 600");
+    assert!(told >= 6 && untold >= 6, "{told}, {untold} of 600");
 }
 
 /// Every line of a run is answered, and a refusal changes nothing.

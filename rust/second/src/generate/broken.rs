@@ -44,7 +44,10 @@ pub fn broken(random: &mut Random, rule: u8) -> Vec<u8> {
         7 => wrong_name(random, &mut source),
         8 => wrong_offset(random, &mut source),
         9 => wrong_ports(random, &mut source),
-        10 => same_place(random, &mut source),
+        10 => match random.one_in(3) {
+            true => same_place(random, &mut source),
+            false => beside(random, &mut source),
+        },
         11 => wrong_bits(random, &mut source),
         12 => wrong_width(random, &mut source),
         13 => wrong_attributes(random, &mut source),
@@ -456,6 +459,54 @@ fn same_place(random: &mut Random, source: &mut Source) {
         register.ports[index].parameter = port.parameter;
         register.ports[index].offset = port.offset;
     }
+}
+
+/// One more register at a place of another, with a mask that mostly has no bit to tell the two
+/// apart; between read parts such a bit would not help.
+fn beside(random: &mut Random, source: &mut Source) {
+    let Some(register) = some_register(random, source) else {
+        return;
+    };
+    let mut port = random.pick(&register.ports).clone();
+    let part = port.modifier.unwrap_or(match random.one_in(4) {
+        true => Part::Read,
+        false => Part::Write,
+    });
+    port.modifier = Some(part);
+    let written = register
+        .masks
+        .iter()
+        .find(|(modifier, _)| modifier.is_none_or(|of| of == part));
+    let mut mask: Vec<char> = written
+        .map_or("........", |(_, mask)| mask)
+        .chars()
+        .map(|element| match element {
+            '0' | '1' if !random.one_in(4) => element,
+            '0' | '1' => '*',
+            _ => *random.pick(&['0', '1', '*']),
+        })
+        .collect();
+    if part == Part::Read || random.one_in(8) {
+        for element in &mut mask {
+            *element = match *element {
+                '0' => '1',
+                '1' => '0',
+                other => other,
+            };
+        }
+    }
+    let masks = vec![(None, mask.into_iter().collect())];
+    let beside = ObjectSource::Register(RegisterSource {
+        name: "beside_it".to_string(),
+        ports: vec![port],
+        masks,
+        width: 8,
+    });
+    let at = match random.one_in(2) {
+        true => random.below(source.objects.len()),
+        false => source.objects.len(),
+    };
+    source.objects.insert(at, beside);
 }
 
 fn wrong_bits(random: &mut Random, source: &mut Source) {

@@ -2,7 +2,7 @@
 
 use super::{valid, Random};
 use crate::load::{load, Verdict};
-use crate::tables::tables;
+use crate::tables::{tables, PORT_ENTRY, REGISTER_ENTRY};
 
 #[derive(Clone, Debug, PartialEq, Eq)]
 pub struct TableSet {
@@ -46,9 +46,14 @@ pub fn sound_tables(random: &mut Random) -> TableSet {
     set
 }
 
-/// Sound tables with one word changed, or one table cut short.
+/// Sound tables with one word changed, or one table cut short, or two registers whose write parts
+/// are brought to one place or no longer told apart there.
 pub fn damaged_tables(random: &mut Random) -> TableSet {
     let mut set = sound_tables(random);
+    if random.one_in(8) {
+        one_write_place(random, &mut set.registers);
+        return set;
+    }
     let (table, entry) = match random.below(5) {
         0 => (&mut set.parameters, 36),
         1 | 2 => (&mut set.registers, 15),
@@ -80,4 +85,32 @@ pub fn damaged_tables(random: &mut Random) -> TableSet {
         _ => random.number() as u32,
     };
     set
+}
+
+/// One register goes to the write place of another, if there are two; or two that are there already
+/// lose the bits that tell them apart.
+fn one_write_place(random: &mut Random, registers: &mut [u32]) {
+    let writes: Vec<usize> = (0..registers[0] as usize)
+        .map(|register| 1 + REGISTER_ENTRY * register + 3 + PORT_ENTRY)
+        .filter(|port| registers[*port] == 1)
+        .collect();
+    let mut shared = Vec::new();
+    for (i, one) in writes.iter().enumerate() {
+        for other in &writes[..i] {
+            if registers[one + 1..one + 3] == registers[other + 1..other + 3] {
+                shared.push((*one, *other));
+            }
+        }
+    }
+    if !shared.is_empty() && random.one_in(2) {
+        let (one, other) = *random.pick(&shared);
+        let told =
+            registers[one + 4] & registers[other + 4] & (registers[one + 5] ^ registers[other + 5]);
+        registers[one + 4] &= !told;
+        registers[one + 5] &= !told;
+    } else if writes.len() > 1 {
+        let (one, other) = (*random.pick(&writes), *random.pick(&writes));
+        let place = [registers[other + 1], registers[other + 2]];
+        registers[one + 1..one + 3].copy_from_slice(&place);
+    }
 }

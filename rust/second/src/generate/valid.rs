@@ -101,6 +101,42 @@ struct Register {
     /// Parameter and offset of each part.
     places: [Option<(usize, u32)>; 2],
     bare: bool,
+    /// Bits that its write mask fixes, to tell it from others at its write place.
+    told: Told,
+}
+
+/// Fixed bits, and those of them that are 1.
+#[derive(Clone, Copy, Default)]
+struct Told {
+    fixed: u8,
+    ones: u8,
+}
+
+impl Told {
+    /// Parts what is told so far by one more bit; its 1 goes to either of the two. `None` if all bits are fixed.
+    fn part(self, random: &mut Random) -> Option<(Told, Told)> {
+        let free: Vec<u8> = (0..8)
+            .map(|bit| 1 << bit)
+            .filter(|bit| self.fixed & bit == 0)
+            .collect();
+        if free.is_empty() {
+            return None;
+        }
+        let bit = *random.pick(&free);
+        let zero = Told {
+            fixed: self.fixed | bit,
+            ones: self.ones,
+        };
+        let one = Told {
+            ones: self.ones | bit,
+            ..zero
+        };
+        Some(if random.one_in(2) {
+            (zero, one)
+        } else {
+            (one, zero)
+        })
+    }
 }
 
 struct Variable {
@@ -262,6 +298,18 @@ fn registers(
             (parameter, some_offset(random, &parameters[parameter]))
         };
         let (one, other) = (place(), place());
+        if random.one_in(6) {
+            let read = random.one_in(2).then_some(one);
+            if read
+                .is_none_or(|(parameter, offset)| !taken.contains(&(Part::Read, parameter, offset)))
+            {
+                if let Some(register) = beside(random, names, &mut registers, read) {
+                    taken.extend(read.map(|(parameter, offset)| (Part::Read, parameter, offset)));
+                    registers.push(register);
+                    continue;
+                }
+            }
+        }
         let (places, bare) = match random.below(8) {
             0..=3 => ([Some(one), Some(one)], true),
             4 => ([Some(one), None], false),
@@ -280,11 +328,39 @@ fn registers(
                 name: names.fresh(random),
                 places,
                 bare,
+                told: Told::default(),
             });
         }
     }
     // One place is always free at the start.
     registers
+}
+
+/// A register at the write place of an earlier one, told from it by one bit more, and so from all
+/// others there.
+fn beside(
+    random: &mut Random,
+    names: &mut Names,
+    registers: &mut [Register],
+    read: Option<(usize, u32)>,
+) -> Option<Register> {
+    let mut writable: Vec<&mut Register> = registers
+        .iter_mut()
+        .filter(|register| register.places[1].is_some())
+        .collect();
+    if writable.is_empty() {
+        return None;
+    }
+    let index = random.below(writable.len());
+    let earlier = &mut writable[index];
+    let (own, told) = earlier.told.part(random)?;
+    earlier.told = own;
+    Some(Register {
+        name: names.fresh(random),
+        places: [read, earlier.places[1]],
+        bare: false,
+        told,
+    })
 }
 
 /// Deals out bits until there are variables enough, or no more bits to be found.
@@ -299,6 +375,7 @@ fn variables(
         for (map, place) in free.iter_mut().zip(register.places) {
             map[i] = if place.is_some() { 0xFF } else { 0 };
         }
+        free[1][i] &= !register.told.fixed;
     }
     // With many variables to come, none may be too wide.
     let all_bits: u32 = free.iter().flatten().map(|bits| bits.count_ones()).sum();
@@ -485,14 +562,15 @@ fn write_register(
     let mut masks = Vec::new();
     let alike = !present[0] || !present[1] || dots[0] == dots[1];
     let common = if present[0] { dots[0] } else { dots[1] };
+    let told = [Told::default(), register.told];
     if alike && common == 0xFF && !random.one_in(6) {
         // No mask means eight dots.
     } else if alike && random.one_in(3) {
-        masks.push((None, mask(random, common)));
+        masks.push((None, mask(random, common, register.told)));
     } else {
         for (i, part) in PARTS.into_iter().enumerate() {
             if present[i] && (dots[i] != 0xFF || random.one_in(6)) {
-                masks.push((Some(part), mask(random, dots[i])));
+                masks.push((Some(part), mask(random, dots[i], told[i])));
             }
         }
         random.shuffle(&mut masks);
@@ -505,13 +583,18 @@ fn write_register(
     }
 }
 
-fn mask(random: &mut Random, dots: u8) -> String {
+fn mask(random: &mut Random, dots: u8, told: Told) -> String {
     (0..8)
         .rev()
-        .map(|bit| match dots >> bit & 1 {
-            1 => '.',
-            _ => *random.pick(&['0', '1', '*']),
-        })
+        .map(|bit| 1 << bit)
+        .map(
+            |bit| match (dots & bit, told.fixed & bit, told.ones & bit) {
+                (0, 0, _) => *random.pick(&['0', '1', '*']),
+                (0, _, 0) => '0',
+                (0, _, _) => '1',
+                _ => '.',
+            },
+        )
         .collect()
 }
 

@@ -15,8 +15,8 @@ pub fn cases(list: &mut List) {
     board!("scoring.devil", "1 5 6");
     board!("feeder.devil", "1 5 6");
     board!("lamp.devil", "2 3 3");
-    board!("busmouse.devil", "1 4 6");
-    board!("i8259a.devil", "1 3 3");
+    board!("busmouse.devil", "1 5 7");
+    board!("i8259a.devil", "1 4 4");
     board!("i8254.devil", "1 4 7");
     board!("uart16550.devil", "1 10 19");
     board!("mc146818.devil", "1 2 3");

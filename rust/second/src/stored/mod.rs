@@ -8,6 +8,7 @@ mod grammar;
 mod limits;
 mod lines;
 mod order;
+mod places;
 mod rules;
 mod runs;
 mod scripts;
@@ -77,6 +78,7 @@ impl Script {
 pub fn scripts() -> Vec<Script> {
     let mut scripts = scripts::scripts();
     scripts.extend(limits::scripts());
+    scripts.extend(places::scripts());
     scripts.extend(runs::scripts());
     scripts.extend(lines::scripts());
     scripts
@@ -87,6 +89,7 @@ pub fn texts() -> Vec<Case> {
     let mut list = reading();
     order::cases(&mut list);
     rules::cases(&mut list);
+    places::cases(&mut list);
     boards::cases(&mut list);
     list.0
 }

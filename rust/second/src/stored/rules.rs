@@ -61,11 +61,6 @@ fn slips(list: &mut List) {
         over_r("variable v=read r:int(8);variable w=write r:int(8);"),
         "1 1 2",
     );
-    list.line(
-        "two write registers at one place",
-        "device d(b:bit[8] port){register p=write b,mask '1..00000':bit[8];register q=write b,mask '000.0000':bit[8];variable v=p[6..5]:int(2);variable w=q[4]:bool;}",
-        "refused 10 75",
-    );
 }
 
 fn rule_6(list: &mut List) {

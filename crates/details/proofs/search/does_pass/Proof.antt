@@ -22,29 +22,41 @@ register-place-requires c κs = search needs
 enum-known-test-3 : tie.Need-enum-known-test-3
 enum-known-test-3 c = search needs
 
-serves-with-requires : tie.Need-serves-with-requires
-serves-with-requires c κs = search needs
+clashes-with-requires : tie.Need-clashes-with-requires
+clashes-with-requires c κs = search needs
 
 enum-known-test-4 : tie.Need-enum-known-test-4
 enum-known-test-4 c = search needs
 
-is-undotted-requires : tie.Need-is-undotted-requires
-is-undotted-requires c κs = search needs
+tells-with-requires : tie.Need-tells-with-requires
+tells-with-requires c κs = search needs
 
 enum-known-test-5 : tie.Need-enum-known-test-5
 enum-known-test-5 c = search needs
 
-overlaps-at-requires : tie.Need-overlaps-at-requires
-overlaps-at-requires c κs = search needs
+could-tell-requires : tie.Need-could-tell-requires
+could-tell-requires c κs = search needs
 
 enum-known-test-6 : tie.Need-enum-known-test-6
 enum-known-test-6 c = search needs
 
-holds-bit-requires : tie.Need-holds-bit-requires
-holds-bit-requires c κs = search needs
+is-undotted-requires : tie.Need-is-undotted-requires
+is-undotted-requires c κs = search needs
 
 enum-known-test-7 : tie.Need-enum-known-test-7
 enum-known-test-7 c = search needs
+
+overlaps-at-requires : tie.Need-overlaps-at-requires
+overlaps-at-requires c κs = search needs
+
+enum-known-test-8 : tie.Need-enum-known-test-8
+enum-known-test-8 c = search needs
+
+holds-bit-requires : tie.Need-holds-bit-requires
+holds-bit-requires c κs = search needs
+
+enum-known-test-9 : tie.Need-enum-known-test-9
+enum-known-test-9 c = search needs
 
 shares-requires : tie.Need-shares-requires
 shares-requires c κs = search needs
@@ -56,19 +68,25 @@ returns-2 : tie.Need-returns-2
 returns-2 c = told (c .before .before .before .before .before .args .table .now) (c .before .before .before .before .before .args .k) (ap (λ (w : ℕ). eqb w (c .before .before .test2 .given .0 .0)) (c .register-place .ensures .is)) (c .before .before .test2 .given .1)
 
 returns-3 : tie.Need-returns-3
-returns-3 c = told (c .before .before .before .before .before .args .table .now) (c .before .before .before .before .before .args .k) (c .serves-with .ensures) (c .before .before .test3 .given .1)
+returns-3 c = told (c .before .before .before .before .before .args .table .now) (c .before .before .before .before .before .args .k) (c .clashes-with .ensures) (c .before .before .test3 .given .1)
 
 returns-4 : tie.Need-returns-4
-returns-4 c = told (c .before .before .before .before .before .args .table .now) (c .before .before .before .before .before .args .k) (c .is-undotted .ensures) (c .before .before .test4 .given .1)
+returns-4 c = told (c .before .before .before .before .before .args .table .now) (c .before .before .before .before .before .args .k) (c .tells-with .ensures) (c .before .before .test4 .given .1)
 
 returns-5 : tie.Need-returns-5
-returns-5 c = told (c .before .before .before .before .before .args .table .now) (c .before .before .before .before .before .args .k) (c .overlaps-at .ensures) (c .before .before .test5 .given .1)
+returns-5 c = told (c .before .before .before .before .before .args .table .now) (c .before .before .before .before .before .args .k) (c .could-tell .ensures) (c .before .before .test5 .given .1)
 
 returns-6 : tie.Need-returns-6
-returns-6 c = told (c .before .before .before .before .before .args .table .now) (c .before .before .before .before .before .args .k) (c .holds-bit .ensures) (c .before .before .test6 .given .1)
+returns-6 c = told (c .before .before .before .before .before .args .table .now) (c .before .before .before .before .before .args .k) (c .is-undotted .ensures) (c .before .before .test6 .given .1)
 
 returns-7 : tie.Need-returns-7
-returns-7 c = told (c .before .before .before .before .before .args .table .now) (c .before .before .before .before .before .args .k) (c .shares .ensures) (c .before .before .test7 .given .1)
+returns-7 c = told (c .before .before .before .before .before .args .table .now) (c .before .before .before .before .before .args .k) (c .overlaps-at .ensures) (c .before .before .test7 .given .1)
+
+returns-8 : tie.Need-returns-8
+returns-8 c = told (c .before .before .before .before .before .args .table .now) (c .before .before .before .before .before .args .k) (c .holds-bit .ensures) (c .before .before .test8 .given .1)
+
+returns-9 : tie.Need-returns-9
+returns-9 c = told (c .before .before .before .before .before .args .table .now) (c .before .before .before .before .before .args .k) (c .shares .ensures) (c .before .before .test9 .given .1)
 
 pub does-pass-spec : {M : Type 1} → statement M
 does-pass-spec =
@@ -79,14 +97,18 @@ does-pass-spec =
     enum-known-test-2
     register-place-requires
     enum-known-test-3
-    serves-with-requires
+    clashes-with-requires
     enum-known-test-4
-    is-undotted-requires
+    tells-with-requires
     enum-known-test-5
-    overlaps-at-requires
+    could-tell-requires
     enum-known-test-6
-    holds-bit-requires
+    is-undotted-requires
     enum-known-test-7
+    overlaps-at-requires
+    enum-known-test-8
+    holds-bit-requires
+    enum-known-test-9
     shares-requires
     returns
     returns-2
@@ -94,4 +116,6 @@ does-pass-spec =
     returns-4
     returns-5
     returns-6
-    returns-7)
+    returns-7
+    returns-8
+    returns-9)

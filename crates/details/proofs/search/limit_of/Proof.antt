@@ -23,11 +23,17 @@ enum-known-test-2 c = search needs
 enum-told-2 : tie.Need-enum-told-2
 enum-told-2 c = search needs
 
+enum-told-3 : tie.Need-enum-told-3
+enum-told-3 c = search needs
+
+enum-told-4 : tie.Need-enum-told-4
+enum-told-4 c = search needs
+
 enum-known-test-3 : tie.Need-enum-known-test-3
 enum-known-test-3 c = search needs
 
-enum-told-3 : tie.Need-enum-told-3
-enum-told-3 c = search needs
+enum-told-5 : tie.Need-enum-told-5
+enum-told-5 c = search needs
 
 count-of-requires-2 : tie.Need-count-of-requires-2
 count-of-requires-2 c κs = search needs
@@ -48,13 +54,19 @@ returns-4 : tie.Need-returns-4
 returns-4 c = search needs
 
 returns-5 : tie.Need-returns-5
-returns-5 c = ap (limit (c .before .before .before .before .args .table .now)) (sym (c .before .test3 .given .1))
+returns-5 c = search needs
 
 returns-6 : tie.Need-returns-6
 returns-6 c = search needs
 
 returns-7 : tie.Need-returns-7
-returns-7 c = ap (limit (c .before .before .before .before .args .table .now)) (sym (c .before .test4 .given .1))
+returns-7 c = ap (limit (c .before .before .before .before .args .table .now)) (sym (c .before .test3 .given .1))
+
+returns-8 : tie.Need-returns-8
+returns-8 c = search needs
+
+returns-9 : tie.Need-returns-9
+returns-9 c = ap (limit (c .before .before .before .before .args .table .now)) (sym (c .before .test4 .given .1))
 
 pub limit-of-spec : {M : Type 1} → statement M
 limit-of-spec =
@@ -66,8 +78,10 @@ limit-of-spec =
     count-of-requires
     enum-known-test-2
     enum-told-2
-    enum-known-test-3
     enum-told-3
+    enum-told-4
+    enum-known-test-3
+    enum-told-5
     count-of-requires-2
     enum-known-test-4
     returns
@@ -76,4 +90,6 @@ limit-of-spec =
     returns-4
     returns-5
     returns-6
-    returns-7)
+    returns-7
+    returns-8
+    returns-9)
