@@ -1,5 +1,6 @@
 //! The texts whose loading is timed.
 
+use second::generate::{valid, Random};
 use second::TEXT_BYTES;
 
 /// Four registers, and one variable that takes them all.
@@ -7,6 +8,15 @@ pub fn small() -> Vec<u8> {
     b"device d(b:bit[8] port@{0..3}){register p=b:bit[8];register q=b@1:bit[8];\
         register r=b@2:bit[8];register s=b@3:bit[8];variable v=p#q#r#s:int(32);}"
         .to_vec()
+}
+
+/// The generated text whose length is nearest to this one.
+pub fn near(length: usize) -> Vec<u8> {
+    let mut random = Random::new(601);
+    (0..3000)
+        .map(|_| valid(&mut random))
+        .min_by_key(|text| text.len().abs_diff(length))
+        .expect("some text")
 }
 
 /// So many registers, each with two variables of four bits. A name is a number with something before and behind it.

@@ -131,6 +131,7 @@ fn rows() {
     println!("|---|---|---|---|---|");
     load_row("4 registers, 1 variable", &texts::small());
     load_row("12 registers, 24 variables", &texts::registers(12, "", ""));
+    load_row("generated, about 1,000 bytes", &texts::near(1000));
     load_row("boards/ne2000.devil", NE2000);
     load_row("64 registers, 128 variables", &texts::largest());
     let blanks = texts::filled(texts::largest(), false);
