@@ -56,6 +56,18 @@ extern "C" {
 #define DESFANUK_LEAST(kind, width) ((kind) == 1 ? -((int64_t)1 << ((width)-1)) : (int64_t)0)
 #define DESFANUK_GREATEST(kind, width) (((int64_t)1 << ((width) - ((kind) == 1 ? 1 : 0))) - 1)
 
+/*
+ * The words of the table of registers that tell where the name of register r starts in the text and
+ * how long it is, and which bits of its read mask are fixed and which of them are 1.
+ */
+#define DESFANUK_REGISTER_NAME_WORD(r) (15 * (r) + 1)
+#define DESFANUK_REGISTER_NAME_LENGTH_WORD(r) (15 * (r) + 2)
+#define DESFANUK_READ_FIXED_WORD(r) (15 * (r) + 8)
+#define DESFANUK_READ_ONES_WORD(r) (15 * (r) + 9)
+
+/* The bits of a byte read that contradict a register's fixed bits: 0 where it obeys. */
+#define DESFANUK_CONTRADICTING(fixed, ones, byte) (((byte) & (fixed)) ^ (ones))
+
 /* Words of the answer of desfanuk_load. */
 #define DESFANUK_VERDICT_WORDS 4
 
@@ -89,7 +101,7 @@ extern "C" {
 
 /*
  * ---- the words of an answer: what a call of the station tells. DESFANUK_REFUSED (0) is word 0 of
- * a refusal; then its number, 0, 0, 0
+ * a refusal; then its number, 0, 0, 0. A refusal that ends a read has DESFANUK_STOPPED
  */
 
 /* Word 0 after an opening; then 0, 0, 0, 0. */
@@ -106,6 +118,12 @@ extern "C" {
 
 /* Word 0 after abandoning; then 0, 0, 0, 0. */
 #define DESFANUK_ABANDONED 4
+
+/*
+ * Word 0 of a refusal that ended the read in hand; then its number, the index of the register whose
+ * byte is to blame, 0, 0.
+ */
+#define DESFANUK_STOPPED 5
 
 /* The directions of an access. */
 #define DESFANUK_READ 0
@@ -167,6 +185,8 @@ extern "C" {
 #define DESFANUK_REFUSED_TOO_LOW 27
 /* The variable is half-written. */
 #define DESFANUK_REFUSED_HALF_WRITTEN 28
+/* The byte read differs from a fixed bit of its register's read mask. The read is over. */
+#define DESFANUK_REFUSED_CONTRADICTED 52
 /* The value is above the greatest of the variable's type: DESFANUK_GREATEST. */
 #define DESFANUK_REFUSED_TOO_HIGH 55
 
@@ -203,7 +223,7 @@ uint32_t desfanuk_sound(const uint32_t *parameters, size_t parameters_len,
  *     operation  the operation in hand, DESFANUK_OPERATION_WORDS
  *
  * Every call tells its answer in `answer` (DESFANUK_ANSWER_WORDS) and returns the refusal's number,
- * or 0. A refusal changes nothing else.
+ * or 0. A refusal changes nothing else, but that one by 52 ends the read: `operation` is idle then.
  */
 
 /*
@@ -244,7 +264,8 @@ uint64_t desfanuk_begin_write(const uint32_t *parameters, size_t parameters_len,
 
 /*
  * Confirms that the access on offer was performed, once: offers the next one, or says that the
- * operation is done. The byte is what was read; for a write it is ignored.
+ * operation is done. The byte is what was read; for a write it is ignored. A byte that differs from
+ * a fixed bit of its register's read mask (a dead cable reads as all ones) is refused by 52.
  */
 uint64_t desfanuk_confirm(const uint32_t *parameters, size_t parameters_len,
                           const uint32_t *registers, size_t registers_len,

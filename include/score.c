@@ -1,7 +1,7 @@
 /*
  * A score in two registers of a scoring board: written, read back, abandoned midway, and written
- * again. The board is a simulated one, four bytes of storage. rust/desfanuk/examples/score.rs is
- * the same program in Rust.
+ * again; at the end the cable is pulled. The board is a simulated one, four bytes of storage.
+ * rust/desfanuk/examples/score.rs is the same program in Rust.
  *
  *     cc -std=c99 -Iinclude include/score.c target/staticlib/libabi.a -o score
  *     ./score boards/scoring.devil
@@ -23,9 +23,10 @@ static uint8_t marks[DESFANUK_VARIABLES];
 static uint64_t operation[DESFANUK_OPERATION_WORDS];
 static int64_t answer[DESFANUK_ANSWER_WORDS];
 
-/* The board: a byte for each offset, and how many accesses it still answers. */
+/* The board: a byte for each offset, how many accesses it still answers, and is its cable in? */
 static uint8_t bytes[4];
 static int patience;
+static int is_plugged = 1;
 
 #define COUNT(array) (sizeof(array) / sizeof(array)[0])
 #define LENT(array) array, COUNT(array)
@@ -64,6 +65,9 @@ static int open_station(void)
 static uint8_t perform(void)
 {
     int offset = (int)answer[3];
+    if (!is_plugged) {
+        bytes[offset] = 0xFF;
+    }
     if (answer[1] == DESFANUK_READ) {
         printf("  read at base + %d: 0x%02X\n", offset, (unsigned)bytes[offset]);
     } else {
@@ -73,9 +77,30 @@ static uint8_t perform(void)
     return bytes[offset];
 }
 
+/* Tells which register gave a byte that contradicts it, and at which bits. */
+static void show_contradiction(uint8_t byte)
+{
+    size_t r = (size_t)answer[2];
+    const uint8_t *name = text + registers[DESFANUK_REGISTER_NAME_WORD(r)];
+    int length = (int)registers[DESFANUK_REGISTER_NAME_LENGTH_WORD(r)];
+    uint32_t ones = registers[DESFANUK_READ_ONES_WORD(r)];
+    uint32_t bits = DESFANUK_CONTRADICTING(registers[DESFANUK_READ_FIXED_WORD(r)], ones, byte);
+    const char *link = ":";
+    int bit;
+    printf("  refused (52): %.*s gave 0x%02X", length, (const char *)name, (unsigned)byte);
+    for (bit = 7; bit >= 0; bit -= 1) {
+        if (bits >> bit & 1) {
+            printf("%s bit %d is fixed at %d", link, bit, (int)(ones >> bit & 1));
+            link = ",";
+        }
+    }
+    printf("\n");
+}
+
 /* Carries out the operation that was begun, access by access, as far as the board answers. */
 static void carry_out(void)
 {
+    uint8_t byte = 0;
     while (answer[0] == DESFANUK_OFFER) {
         if (patience == 0) {
             desfanuk_abandon(TABLES, LENT(held), LENT(marks), LENT(operation), LENT(answer));
@@ -83,10 +108,13 @@ static void carry_out(void)
             return;
         }
         patience -= 1;
-        desfanuk_confirm(TABLES, LENT(held), LENT(marks), LENT(operation), perform(), LENT(answer));
+        byte = perform();
+        desfanuk_confirm(TABLES, LENT(held), LENT(marks), LENT(operation), byte, LENT(answer));
     }
     if (answer[0] == DESFANUK_DONE) {
         printf("  done: %d, in %d accesses\n", (int)answer[1], (int)answer[2]);
+    } else if (answer[0] == DESFANUK_STOPPED) {
+        show_contradiction(byte);
     } else if (answer[1] == DESFANUK_REFUSED_HALF_WRITTEN) {
         printf("  refused (28): the variable is half-written\n");
     } else {
@@ -130,8 +158,8 @@ static void read_score(size_t score, const char *title)
 
 int main(int argc, char **argv)
 {
-    static const uint8_t name[] = {'s', 'c', 'o', 'r', 'e'};
-    int64_t found;
+    static const uint8_t score_name[] = {'s', 'c', 'o', 'r', 'e'};
+    int64_t score;
     if (argc != 2) {
         fprintf(stderr, "usage: score DESCRIPTION\n");
         return 2;
@@ -139,18 +167,20 @@ int main(int argc, char **argv)
     if (!load(argv[1]) || !open_station()) {
         return 1;
     }
-    found = desfanuk_lookup(text, text_len, LENT(variables), LENT(name));
-    if (found < 0) {
+    score = desfanuk_lookup(text, text_len, LENT(variables), LENT(score_name));
+    if (score < 0) {
         fprintf(stderr, "it has no score\n");
         return 1;
     }
-    write_score((size_t)found, "Write the score 2741.", 2741, 2);
-    read_score((size_t)found, "Read it.");
-    write_score((size_t)found, "Write 3000, and let the board stop midway.", 3000, 1);
-    read_score((size_t)found, "Read the score: its registers hold 2997 now, which nobody gave.");
-    write_score((size_t)found, "Write 3000 again.", 3000, 2);
-    read_score((size_t)found, "Read it.");
-    write_score((size_t)found, "Write 5000.", 5000, 2);
-    write_score((size_t)found, "Write -1.", -1, 2);
+    write_score((size_t)score, "Write the score 2741.", 2741, 2);
+    read_score((size_t)score, "Read it.");
+    write_score((size_t)score, "Write 3000, and let the board stop midway.", 3000, 1);
+    read_score((size_t)score, "Read the score: its registers hold 2997 now, which nobody gave.");
+    write_score((size_t)score, "Write 3000 again.", 3000, 2);
+    read_score((size_t)score, "Read it.");
+    write_score((size_t)score, "Write 5000.", 5000, 2);
+    write_score((size_t)score, "Write -1.", -1, 2);
+    is_plugged = 0;
+    read_score((size_t)score, "Pull the cable, so that all reads give ones, and read the score.");
     return 0;
 }

@@ -17,7 +17,7 @@ use Rattle.tables.specs.View.{Tables, partNo, variableCount}
 use Rattle.station.specs.declared.Operation.{Operation}
 use Rattle.station.specs.declared.Operation.the-variants.{Idle, Reading, Writing}
 use Rattle.station.specs.declared.Answer.{Answer}
-use Rattle.station.specs.declared.Answer.the-variants.{Refused, Opened, Offer as Offered, Done, Abandoned as Ended}
+use Rattle.station.specs.declared.Answer.the-variants.{Refused, Stopped, Opened, Offer as Offered, Done, Abandoned as Ended}
 use Rattle.station.specs.Calls.{State, Outcome, Test, refused, unless, isLong, isUnderway, isAllowed, checked}
 use Rattle.loader.specs.Load.{Loaded}
 use Rattle.abi.specs.Loading.{TellsLoaded}
@@ -72,7 +72,8 @@ ofWords kind a b c d =
     (cond (eqb kind 1) Opened
     (cond (eqb kind 2) (Offered (record { direction = partOf (natAbs a); parameter = natAbs b; offset = natAbs c; byte = natAbs d }))
     (cond (eqb kind 3) (Done a (natAbs b))
-    Ended)))
+    (cond (eqb kind 4) Ended
+    (Stopped (natAbs a) (natAbs b))))))
 
 abbrev answerOf : List ℤ → Answer
 answerOf words = ofWords (natAbs (word 0)) (word 1) (word 2) (word 3) (word 4)
@@ -87,6 +88,7 @@ answer-back (Offered access) =
     ap (λ (part : Part). Offered (record { direction = part; parameter = access .parameter; offset = access .offset; byte = access .byte })) (part-back (access .direction))
 answer-back (Done value accesses) = refl
 answer-back Ended = refl
+answer-back (Stopped number register) = refl
 
 pub told-apart : (a b : Answer) → answerWords a ≡ answerWords b → a ≡ b
 told-apart a b same = sym (answer-back a) ∙ ap answerOf same ∙ answer-back b

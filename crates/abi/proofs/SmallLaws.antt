@@ -4,6 +4,7 @@ use Prim.Native.Nat.{ℕ, suc, _<_, _^_}
 use mathlib.Core.Path.{_≡_, refl}
 use mathlib.Core.Bool.{Bool, true, false, _&&_, cond}
 use mathlib.Core.List.{List, [], _∷_}
+use native.Mathlib.Nat.{lt-trans}
 use native.Mathlib.Omega.{arith}
 use lib.Dec.{ltb}
 use lib.IntN.{ℤ}
@@ -13,11 +14,13 @@ use mir.Val.{Fits}
 use borrow.Author.Tests.{eqb-true, ltb-true, not-false}
 use Rattle.tables.specs.declared.Part.{Part}
 use Rattle.tables.specs.declared.Part.the-variants.{Read as reading, Write as writing}
-use Rattle.tables.specs.View.{Tables, sound, variableCount, parameterOf, offsetOf}
+use Rattle.tables.specs.View.{Tables, sound, registerCount, obeys, variableCount, parameterOf, offsetOf}
+use Rattle.tables.proofs.Consistent.{consistent}
 use Rattle.station.specs.declared.Operation.{Operation}
 use Rattle.station.specs.declared.Operation.the-variants.{Idle, Reading, Writing}
-use Rattle.station.specs.Calls.{State, Outcome, Test, refused, unless, isAllowed, isLast, gather, registerTaken, keeping, writeAccess, readOn, writeOn, stepsOf, checked, opening, openingTests, beginRead, readTests, beginWrite, writeTests, confirmed, confirm, abandoned, abandon}
+use Rattle.station.specs.Calls.{State, Outcome, Test, refused, unless, isAllowed, isLast, gather, registerTaken, keeping, writeAccess, readOn, writeOn, contradicted, stepsOf, checked, opening, openingTests, beginRead, readTests, beginWrite, writeTests, confirmed, confirm, abandoned, abandon}
 use Rattle.station.proofs.Distinct.{at-most-8}
+use Rattle.station.proofs.Registers.{register-inside}
 use Rattle.station.proofs.Refusals.{NoneHolds}
 use Rattle.station.proofs.Underway.{reading-allowed, writing-allowed}
 use Rattle.abi.specs.Told.{Small}
@@ -66,11 +69,22 @@ module _ (t : Tables) (narrow : (i : ℕ) → Fits w32 (getD (t .registers) i 0)
       go true e = done (last-small part v n ok hv e)
       go false e = offered
 
+  -- a register's index is below 64
+  register-small : (part : Part) (v step : ℕ) → sound t ≡ true → v < variableCount t → step < stepsOf t part v → registerTaken t part v step < 2 ^ 32
+  unfolding registerCount
+  register-small part v step ok hv hs = lt-trans (register-inside t (consistent t ok) part v step hv hs) (narrow 0 .fits)
+
+  or-stops : (obeyed : Bool) (s : State) (r : ℕ) (o : Outcome) → r < 2 ^ 32 → Small (o .answer) → Small (cond obeyed o (contradicted r s) .answer)
+  or-stops true s r o small goes = goes
+  or-stops false s r o small goes = (omega arith, small)
+
   confirmed-small : (s : State) (op : Operation) (byte : ℕ) → sound t ≡ true → isAllowed t op ≡ true → Small (confirmed t s op byte .answer)
   confirmed-small s Idle byte ok allowed = omega arith
   confirmed-small s (Reading v step g) byte ok allowed =
-      on-small reading v (suc step) (λ last. readOn last t s v (suc step) (gather t v g (registerTaken t reading v step) byte)) ok
-      (reading-allowed t v step g allowed .0) (λ few. few) (offer-small reading _)
+      let a = reading-allowed t v step g allowed in
+      or-stops (obeys t reading (registerTaken t reading v step) byte) s (registerTaken t reading v step) _ (register-small reading v step ok (a .0) (a .2))
+      (on-small reading v (suc step) (λ last. readOn last t s v (suc step) (gather t v g (registerTaken t reading v step) byte)) ok
+      (a .0) (λ few. few) (offer-small reading _))
   confirmed-small s (Writing v step x) byte ok allowed =
       on-small writing v (suc step) (λ last. writeOn last t (keeping s (registerTaken t writing v step) (writeAccess t s v step x .byte)) v (suc step) x) ok
       (writing-allowed t v step x allowed .0) (λ few. few) (offer-small writing _)

@@ -2,19 +2,27 @@
 -- Assumes nothing.
 use Prim.Native.Nat.{ℕ, _^_, _<_}
 use mathlib.Core.Path.{_≡_}
-use mathlib.Core.Bool.{cond}
+use mathlib.Core.Bool.{Bool, true, false, cond}
 use mathlib.Core.List.{List}
-use lib.Dec.{eqb}
 use lib.IntN.{ℤ}
 use Rattle.station.specs.declared.Operation.{Operation}
 use Rattle.station.specs.declared.Answer.{Answer}
-use Rattle.station.specs.declared.Answer.the-variants.{Refused, Opened, Offer as Offered, Done, Abandoned as Ended}
+use Rattle.station.specs.declared.Answer.the-variants.{Refused, Stopped, Opened, Offer as Offered, Done, Abandoned as Ended}
 use Rattle.station.specs.Calls.{Outcome}
 use Rattle.abi.specs.Words.{written, operationWords, answerWords, refusalNumber}
 
--- the operation's words after a call: a refusal leaves them as they were, whatever they held
+-- the operation's words after a call: a refusal leaves them as they were, whatever they held, but for one that stops
+-- the operation
+abbrev pub isLeft : Answer → Bool
+isLeft (Refused number) = true
+isLeft (Stopped number register) = false
+isLeft Opened = false
+isLeft (Offered access) = false
+isLeft (Done value accesses) = false
+isLeft Ended = false
+
 unfoldable pub operationLeft : Answer → Operation → List ℕ → List ℕ
-operationLeft answer operation words = cond (eqb (refusalNumber answer) 0) (written (operationWords operation) words) words
+operationLeft answer operation words = cond (isLeft answer) words (written (operationWords operation) words)
 
 -- a call with this outcome, lent these words for the operation and the answer, leaves this record, these marks and these words, and returns this number
 pub record Tells (o : Outcome) (operation : List ℕ) (answer : List ℤ)
@@ -35,6 +43,7 @@ pub record Told (answer : Answer) (operation : Operation) (lentOperation : List 
 -- the numbers of an answer fit a word
 abbrev pub Small : Answer → Type 0
 Small (Refused number) = number < 2 ^ 32
+Small (Stopped number register) = (number < 2 ^ 32) × (register < 2 ^ 32)
 Small Opened = Unit {0}
 Small (Offered access) = (access .parameter < 2 ^ 32) × (access .offset < 2 ^ 32)
 Small (Done value accesses) = accesses < 2 ^ 32

@@ -11,7 +11,7 @@ use Rattle.tables.specs.View.{partNo}
 use Rattle.station.specs.declared.Operation.{Operation}
 use Rattle.station.specs.declared.Operation.the-variants.{Idle, Reading, Writing}
 use Rattle.station.specs.declared.Answer.{Answer}
-use Rattle.station.specs.declared.Answer.the-variants.{Refused, Opened, Offer as Offered, Done, Abandoned as Ended}
+use Rattle.station.specs.declared.Answer.the-variants.{Refused, Stopped, Opened, Offer as Offered, Done, Abandoned as Ended}
 use Rattle.station.specs.Answers.{refusalOf}
 
 -- words written from a list's front on; those that it has no room for are lost, and what lies behind them stays
@@ -49,8 +49,9 @@ answerWords Opened = pos 1 ∷ pos 0 ∷ pos 0 ∷ pos 0 ∷ pos 0 ∷ []
 answerWords (Offered access) = pos 2 ∷ pos (partNo (access .direction)) ∷ pos (access .parameter) ∷ pos (access .offset) ∷ pos (access .byte) ∷ []
 answerWords (Done value accesses) = pos 3 ∷ value ∷ pos accesses ∷ pos 0 ∷ pos 0 ∷ []
 answerWords Ended = pos 4 ∷ pos 0 ∷ pos 0 ∷ pos 0 ∷ pos 0 ∷ []
+answerWords (Stopped number register) = pos 5 ∷ pos number ∷ pos register ∷ pos 0 ∷ pos 0 ∷ []
 
--- the number that document 01 gives a refusal, and 0 where there is none
+-- the number that document 01 or 02 gives a refusal, and 0 where there is none
 abbrev pub orZero : Option ℕ → ℕ
 orZero none = 0
 orZero (some number) = number

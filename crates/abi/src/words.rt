@@ -6,7 +6,7 @@ ghost use lib.IntN.{pos};
 ghost use lib.ListN.{set};
 ghost use Rattle.tables.specs.View.{partNo};
 ghost use Rattle.abi.specs.Words.{written, noOperation, ofKind, operationOf, operationWords, answerWords, refusalNumber};
-ghost use Rattle.abi.specs.Told.{Told, Small, operationLeft};
+ghost use Rattle.abi.specs.Told.{Told, Small, isLeft};
 use station::Access;
 use station::Answer;
 use station::Operation;
@@ -166,6 +166,9 @@ fn tell_answer(answer: Answer, words: &mut [i64])
         Answer::Offer(access) => tell_offer(access, words),
         Answer::Done { value, accesses } => put_answer(words, 3, value, signed(accesses), 0, 0),
         Answer::Abandoned => put_answer(words, 4, 0, 0, 0, 0),
+        Answer::Stopped { number, register } => {
+            put_answer(words, 5, signed(number), signed(register), 0, 0)
+        }
     }
 }
 
@@ -181,6 +184,30 @@ fn refusal_number(answer: Answer) -> usize
             accesses: _,
         } => 0,
         Answer::Abandoned => 0,
+        Answer::Stopped {
+            number,
+            register: _,
+        } => number,
+    }
+}
+
+// Does the answer leave the operation's words as they were?
+fn is_left(answer: Answer) -> bool
+    ensures { λ r. ⌜ r ≡ isLeft answer ⌝ }
+{
+    match answer {
+        Answer::Refused(_) => true,
+        Answer::Opened => false,
+        Answer::Offer(_) => false,
+        Answer::Done {
+            value: _,
+            accesses: _,
+        } => false,
+        Answer::Abandoned => false,
+        Answer::Stopped {
+            number: _,
+            register: _,
+        } => false,
     }
 }
 
@@ -195,7 +222,7 @@ pub fn tell(outcome: Outcome, operation: &mut [u64], answer: &mut [i64]) -> u64
     let next = outcome.operation;
     let number = refusal_number(given);
     tell_answer(given, answer);
-    if number == 0 {
+    if !is_left(given) {
         tell_operation(next, operation);
     }
     number as u64

@@ -3,16 +3,16 @@
 -- Assumes nothing.
 use Prim.Native.Nat.{ℕ, suc}
 use mathlib.Core.Path.{_≡_, refl, ap}
-use mathlib.Core.Bool.{Bool, true, false}
+use mathlib.Core.Bool.{Bool, true, false, cond}
 use mathlib.Core.List.{List, []}
 use mathlib.Core.Option.{Option}
 use lib.IntN.{ℤ}
 use Rattle.tables.specs.declared.Part.the-variants.{Read as reading, Write as writing}
-use Rattle.tables.specs.View.{Tables}
+use Rattle.tables.specs.View.{Tables, obeys}
 use Rattle.station.specs.declared.Access.{Access}
 use Rattle.station.specs.declared.Operation.{Operation}
 use Rattle.station.specs.declared.Operation.the-variants.{Idle, Reading, Writing}
-use Rattle.station.specs.Calls.{State, Outcome, onOffer, checked, readTests, writeTests, confirmed, abandoned, readOn, writeOn, isLast, beginRead, beginWrite, confirm, abandon, gather, registerTaken, keeping, writeAccess}
+use Rattle.station.specs.Calls.{State, Outcome, onOffer, checked, readTests, writeTests, confirmed, abandoned, contradicted, readOn, writeOn, isLast, beginRead, beginWrite, confirm, abandon, gather, registerTaken, keeping, writeAccess}
 use Rattle.station.proofs.Refusals.{unless-cases}
 use Rattle.board.specs.Board.{World, Call, BeginRead, BeginWrite, Confirm, Abandon, brought, standing, step}
 
@@ -35,11 +35,16 @@ module _ (sound : Tables → Bool) (t : Tables) where
   write-on s left true v n x = refl
   write-on s left false v n x = refl
 
+  or-stops : (s : State) (obeyed : Bool) (o : Outcome) (r : ℕ) → Told t s o → Told t s (cond obeyed o (contradicted r s))
+  or-stops s true o r told-so = told-so
+  or-stops s false o r told-so = refl
+
   goes-on : (k m : List ℕ) (op : Operation) (byte : ℕ) → let s : State = record { kept = k; marks = m; operation = op } in Told t s (confirmed t s op byte)
   goes-on k m Idle byte = refl
   goes-on k m (Reading v n g) byte =
       let s : State = record { kept = k; marks = m; operation = Reading v n g } in
-      read-on s (isLast t reading v (suc n)) v (suc n) (gather t v g (registerTaken t reading v n) byte)
+      or-stops s (obeys t reading (registerTaken t reading v n) byte) _ (registerTaken t reading v n)
+      (read-on s (isLast t reading v (suc n)) v (suc n) (gather t v g (registerTaken t reading v n) byte))
   goes-on k m (Writing v n x) byte =
       let s : State = record { kept = k; marks = m; operation = Writing v n x } in
       write-on s (keeping s (registerTaken t writing v n) (writeAccess t s v n x .byte)) (isLast t writing v (suc n)) v (suc n) x

@@ -8,7 +8,7 @@ use lib.Dec.{eqb}
 use lib.IntN.{ℤ}
 use Rattle.tables.specs.View.{Tables}
 use Rattle.station.specs.declared.Answer.{Answer}
-use Rattle.station.specs.declared.Answer.the-variants.{Refused, Opened, Offer as Offered, Done, Abandoned as Ended}
+use Rattle.station.specs.declared.Answer.the-variants.{Refused, Stopped, Opened, Offer as Offered, Done, Abandoned as Ended}
 use borrow.Author.Tests.{not-true}
 use Rattle.board.specs.Board.{Cells, Event, Finished, Abandoned, Due, Gives, HalfWritten, mustRead, Asked, Nothing, ToRead, ToWrite, takenOn, closed, noted, World, Call, BeginRead, BeginWrite, Confirm, Abandon, step, after}
 use Rattle.board.specs.Stops.{lastGiven, isHalf, isBeingWritten, Settled, begins, noneBegins}
@@ -59,6 +59,9 @@ module _ (t : Tables) (power : Cells) where
   -- an answer to a confirmation or an end notes nothing of v, where v is not being written
   noted-same : (a : Answer) (asked : Asked) (es : List Event) (v : ℕ) → isBeingWritten asked v ≡ false → SameNotes v (noted a asked es) es
   noted-same (Refused n) asked es v rest = same v es
+  noted-same (Stopped n r) Nothing es v rest = same v es
+  noted-same (Stopped n r) (ToRead u) es v rest = same v es
+  noted-same (Stopped n r) (ToWrite u z) es v rest = other-abandoned v u es rest
   noted-same Opened asked es v rest = same v es
   noted-same (Offered a) asked es v rest = same v es
   noted-same (Done y n) Nothing es v rest = same v es
@@ -70,6 +73,7 @@ module _ (t : Tables) (power : Cells) where
 
 closed-rests : (a : Answer) (asked : Asked) (v : ℕ) → isBeingWritten asked v ≡ false → isBeingWritten (closed a asked) v ≡ false
 closed-rests (Refused n) asked v rest = rest
+closed-rests (Stopped n r) asked v rest = refl
 closed-rests Opened asked v rest = rest
 closed-rests (Offered a) asked v rest = rest
 closed-rests (Done y n) asked v rest = refl
@@ -77,6 +81,7 @@ closed-rests Ended asked v rest = refl
 
 taken-rests : (a : Answer) (asked new : Asked) (v : ℕ) → isBeingWritten asked v ≡ false → isBeingWritten new v ≡ false → isBeingWritten (takenOn a asked new) v ≡ false
 taken-rests (Refused n) asked new v old-rests new-rests = old-rests
+taken-rests (Stopped n r) asked new v old-rests new-rests = old-rests
 taken-rests Opened asked new v old-rests new-rests = old-rests
 taken-rests (Offered a) asked new v old-rests new-rests = new-rests
 taken-rests (Done y n) asked new v old-rests new-rests = old-rests

@@ -18,7 +18,7 @@ scoring =
     record {
       parameters = parameter 3;
       registers = 5
-          ∷ sameParts 0 0x0F 0 0
+          ∷ sameParts 0 0x0F 0xF0 0
           ++ sameParts 1 0xFF 0 0
           ++ sameParts 2 0xFF 0 0
           ++ register (part 3 0x7C 0x80 0) noPart

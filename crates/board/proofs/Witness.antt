@@ -9,17 +9,19 @@ use native.Mathlib.Nat.{not-suc-le-zero, le-of-suc-le-suc}
 use native.Mathlib.Omega.{arith}
 use lib.IntN.{ℤ, pos, natAbs}
 use lib.ListN.{length, getD, replicate}
+use Rattle.tables.specs.declared.Part.{Part}
 use Rattle.tables.specs.declared.Part.the-variants.{Read as reading, Write as writing}
 use Rattle.tables.specs.Marks.{joined, downFrom}
-use Rattle.tables.specs.View.{sound, Plain, Among, isVolatile, isTrigger, registerCount, registerWidth, registerHas, parameterOf, offsetOf, isDot, isOne, obeys, variableCount, kindOf, variableHas, bitsOf, size, placeOf, without, mentions, registersOf}
+use Rattle.tables.specs.View.{sound, Plain, Among, isVolatile, isTrigger, registerCount, registerWidth, registerHas, parameterOf, offsetOf, isDot, isFixed, isOne, obeys, variableCount, kindOf, variableHas, bitsOf, size, placeOf, without, mentions, registersOf}
 use Rattle.station.specs.declared.Operation.the-variants.{Idle}
 use Rattle.station.specs.declared.Answer.{Answer}
 use Rattle.station.specs.declared.Answer.the-variants.{Refused, Opened, Done}
 use Rattle.bits.specs.Bits.{bit, numberOf}
 use Rattle.bits.specs.Values.{isBelow, isAbove, inRange, encode, decode}
 use Rattle.station.specs.Calls.{State, stepsOf, unless, isLong, isUnderway, isRead, isGathered, isAllowed, ownBit, otherBit, settingsBit, settingsByte, writtenByte, gatheredBit, gather, opening}
-use Rattle.board.specs.Board.{World, Call, BeginRead, BeginWrite, Confirm, Abandon, put, answers, lastWhere, reached, after, opened, wholeRead, wholeWrite}
-use Rattle.board.specs.Demand.{Opening, worldAfter, writesOf, Work, EqualBoards}
+use Rattle.board.specs.Board.{Gives, bitsIn, mustRead, World, Call, BeginRead, BeginWrite, Confirm, Abandon, put, answers, lastWhere, reached, after, opened, wholeRead, wholeWrite}
+use Rattle.board.specs.Demand.{Opening, worldAfter, dueAfter, writesOf, Work, EqualBoards}
+use Rattle.board.specs.Obedient.{Obedient}
 use Rattle.board.specs.Stops.{leftBy, listed, readBack}
 use Rattle.board.proofs.Demand3.{demand-3}
 use Rattle.board.proofs.Stops.{power-lost}
@@ -28,9 +30,9 @@ use Rattle.board.proofs.Scoring.{scoring, scoring-sound}
 
 -- ── an opening ──
 
--- score 0x734, row 5, seat 12; the high register's unused bits are not zero
+-- score 0x734, row 5, seat 12; the status register's unused bits are not zero
 abbrev power : List ℕ
-power = 0xA7 ∷ 0x34 ∷ 0x5C ∷ 0x7C ∷ 0x00 ∷ []
+power = 0x07 ∷ 0x34 ∷ 0x5C ∷ 0x7F ∷ 0x00 ∷ []
 
 abbrev lent : State
 lent = record { kept = replicate 5 0; marks = replicate 6 0; operation = Idle }
@@ -85,6 +87,49 @@ only-these (suc (suc (suc zero))) p = absurd (true≢false (p .steady))
 only-these (suc (suc (suc (suc zero)))) p = absurd (true≢false (p .steady))
 only-these (suc (suc (suc (suc (suc zero))))) p = absurd (false≢true (p .whole reading))
 only-these (suc (suc (suc (suc (suc (suc v)))))) p = let h = p .exists in absurd (omega arith)
+
+-- ── one mask for both parts, and power-on values that obey: the premise of reading back ──
+
+below-five : (P : ℕ → Type 0) → P 0 → P 1 → P 2 → P 3 → P 4 → (r : ℕ) → r < 5 → P r
+below-five P at-0 at-1 at-2 at-3 at-4 zero h = at-0
+below-five P at-0 at-1 at-2 at-3 at-4 (suc zero) h = at-1
+below-five P at-0 at-1 at-2 at-3 at-4 (suc (suc zero)) h = at-2
+below-five P at-0 at-1 at-2 at-3 at-4 (suc (suc (suc zero))) h = at-3
+below-five P at-0 at-1 at-2 at-3 at-4 (suc (suc (suc (suc zero)))) h = at-4
+below-five P at-0 at-1 at-2 at-3 at-4 (suc (suc (suc (suc (suc r))))) h = absurd (omega arith)
+
+-- three registers have both parts; the fourth is only read, with a bit fixed at 0, the fifth only written, with seven
+alike : (bitOf : Part → ℕ → ℕ → Bool) → ((b : ℕ) → bitOf reading 0 b ≡ bitOf writing 0 b) → ((b : ℕ) → bitOf reading 1 b ≡ bitOf writing 1 b)
+    → ((b : ℕ) → bitOf reading 2 b ≡ bitOf writing 2 b) → (r b : ℕ) → r < registerCount scoring
+    → registerHas scoring reading r ≡ true → registerHas scoring writing r ≡ true → bitOf reading r b ≡ bitOf writing r b
+unfolding scoring registerCount registerHas
+alike bitOf at-0 at-1 at-2 r b h =
+    below-five (λ r. registerHas scoring reading r ≡ true → registerHas scoring writing r ≡ true → bitOf reading r b ≡ bitOf writing r b)
+    (λ has has′. at-0 b) (λ has has′. at-1 b) (λ has has′. at-2 b) (λ has has′. absurd (false≢true has′)) (λ has has′. absurd (false≢true has)) r h
+
+obedient : Obedient scoring power
+unfolding scoring registerCount registerHas isDot isFixed isOne obeys
+obedient =
+    record {
+      same-dots = alike (isDot scoring) (λ b. refl) (λ b. refl) (λ b. refl);
+      same-fixed = alike (isFixed scoring) (λ b. refl) (λ b. refl) (λ b. refl);
+      same-ones = alike (isOne scoring) (λ b. refl) (λ b. refl) (λ b. refl);
+      at-power-on = elim [
+        | reading ↦ below-five (λ r. registerHas scoring reading r ≡ true → obeys scoring reading r (getD power r 0) ≡ true)
+            (λ has. refl) (λ has. refl) (λ has. refl) (λ has. refl) (λ has. absurd (false≢true has))
+        | writing ↦ below-five (λ r. registerHas scoring writing r ≡ true → obeys scoring writing r (getD power r 0) ≡ true)
+            (λ has. refl) (λ has. refl) (λ has. refl) (λ has. absurd (false≢true has)) (λ has. refl)
+      ];
+    }
+
+-- so the score at power-on is read back by the law
+due-at-first : dueAfter start [] 0 ≡ Gives (pos 0x734)
+unfolding start scoring after unless isLong mustRead bitsIn decode kindOf joined downFrom bitsOf size placeOf registerCount variableCount bit numberOf
+due-at-first = refl
+
+read-by-law : after sound scoring (wholeRead 0 (7 ∷ 7 ∷ [])) (worldAfter start []) .answer ≡ Done (pos 0x734) (stepsOf scoring reading 0)
+unfolding start scoring after registersOf mentions without joined downFrom bitsOf
+read-by-law = demand-3 scoring power .reads-back start [] 0 (pos 0x734) (7 ∷ 7 ∷ []) obedient (plain 0 (omega arith)) refl due-at-first refl
 
 -- ── two boards ──
 
@@ -165,7 +210,7 @@ run-is calls = world-passed scoring scoring-sound start calls
 left : List Call → List ℕ
 left calls = readBack scoring (worldAfter start calls .cells)
 
-boards-are : (left firstCalls ∷ left secondCalls ∷ []) ≡ (0x0A ∷ 0xBC ∷ 0x39 ∷ 0x7C ∷ 0x00 ∷ []) ∷ (0x0A ∷ 0xBD ∷ 0x39 ∷ 0x7C ∷ 0x00 ∷ []) ∷ []
+boards-are : (left firstCalls ∷ left secondCalls ∷ []) ≡ (0x0A ∷ 0xBC ∷ 0x39 ∷ 0x7F ∷ 0x00 ∷ []) ∷ (0x0A ∷ 0xBD ∷ 0x39 ∷ 0x7F ∷ 0x00 ∷ []) ∷ []
 unfolding left run scoring listed writesOf after unless isLong isUnderway isRead isGathered isAllowed isBelow isAbove inRange encode decode variableCount registerCount registerWidth registerHas parameterOf offsetOf isDot isOne kindOf variableHas joined downFrom bitsOf size placeOf without mentions registersOf bit numberOf ownBit otherBit settingsBit settingsByte writtenByte gatheredBit gather put answers lastWhere reached obeys
 boards-are =
     ap₂ (λ (w u : World). readBack scoring (w .cells) ∷ readBack scoring (u .cells) ∷ []) (run-is firstCalls) (run-is secondCalls)
@@ -216,7 +261,7 @@ lostCalls = wholeWrite 0 (pos 0x123) (7 ∷ 7 ∷ []) ++ (BeginWrite 0 (pos 0x45
 abbrev lostPower : List ℕ
 lostPower = readBack scoring (leftBy scoring false (worldAfter start lostCalls))
 
-lost-is : lostPower ≡ 0x04 ∷ 0x23 ∷ 0x5C ∷ 0x7C ∷ 0x00 ∷ []
+lost-is : lostPower ≡ 0x04 ∷ 0x23 ∷ 0x5C ∷ 0x7F ∷ 0x00 ∷ []
 unfolding run scoring listed after unless isLong isUnderway isRead isGathered isAllowed isBelow isAbove inRange encode decode variableCount registerCount registerWidth registerHas parameterOf offsetOf isDot isOne kindOf variableHas joined downFrom bitsOf size placeOf without mentions registersOf bit numberOf ownBit otherBit settingsBit settingsByte writtenByte gatheredBit gather put answers lastWhere reached obeys
 lost-is = ap (λ (w : World). readBack scoring (leftBy scoring false w)) (run-is lostCalls)
 

@@ -1,5 +1,7 @@
--- Stations that stop midway: what is known of the board at any moment, and after a loss of power that leaves the station nothing but the board.
--- This goes beyond demand 3. proofs/Stops.antt proves it.
+-- Stations that stop midway: what is known of the board at any moment, and after a loss of power that leaves the
+-- station nothing but the board. This goes beyond demand 3. proofs/Stops.antt proves it. Where it says how a variable
+-- reads, it says what a read is due that comes to be done: with two masks for one register, or a power-on value that
+-- does not obey, a read may be stopped by 52 (Demand.antt, `reads-back`).
 -- Assumes nothing.
 use Prim.Native.Nat.{ℕ, zero, suc, _<_}
 use mathlib.Core.Path.{_≡_}

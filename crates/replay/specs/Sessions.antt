@@ -12,7 +12,7 @@ use Rattle.station.specs.Promise.{lent}
 use Rattle.station.specs.declared.Operation.{Operation}
 use Rattle.station.specs.declared.Operation.the-variants.{Idle}
 use Rattle.station.specs.declared.Answer.{Answer}
-use Rattle.station.specs.declared.Answer.the-variants.{Offer, Done, Opened, Abandoned, Refused}
+use Rattle.station.specs.declared.Answer.the-variants.{Offer, Done, Opened, Abandoned, Refused, Stopped}
 use Rattle.rules.specs.Names.{variableNamed}
 use Rattle.script.specs.Words.{wordOf, restOf, wordsOf}
 use Rattle.replay.specs.Fields.{powerOn}
@@ -53,6 +53,7 @@ isOpened (Offer access) = false
 isOpened (Done z n) = false
 isOpened Abandoned = false
 isOpened (Refused n) = false
+isOpened (Stopped n r) = false
 
 -- the station's call
 unfoldable pub requested : Tables → List ℕ → State → Request → Came

@@ -104,6 +104,10 @@ fn is_opened(answer: Answer) -> bool
         } => false,
         Answer::Abandoned => false,
         Answer::Refused(_) => false,
+        Answer::Stopped {
+            number: _,
+            register: _,
+        } => false,
     }
 }
 

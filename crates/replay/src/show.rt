@@ -73,6 +73,10 @@ fn answer(given: Answer) {
         Answer::Opened => say(b"opened"),
         Answer::Abandoned => say(b"abandoned"),
         Answer::Refused(number) => number_after(b"refused ", number),
+        Answer::Stopped { number, register } => {
+            number_after(b"refused ", number);
+            number_after(b" ", register);
+        }
     }
     say(b"\n");
 }

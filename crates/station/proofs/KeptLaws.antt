@@ -2,13 +2,13 @@
 -- Assumes nothing.
 use Prim.Native.Nat.{ℕ, suc}
 use mathlib.Core.Path.{_≡_, refl, sym, subst}
-use mathlib.Core.Bool.{Bool, true, false, true≢false}
+use mathlib.Core.Bool.{Bool, true, false, true≢false, cond}
 use mathlib.Core.List.{[]}
 use lib.ListN.{set}
 use Rattle.tables.specs.declared.Part.the-variants.{Read as reading, Write as writing}
-use Rattle.tables.specs.View.{Tables}
+use Rattle.tables.specs.View.{Tables, obeys}
 use Rattle.station.specs.declared.Operation.{Operation}
-use Rattle.station.specs.Calls.{Idle, Reading, Writing, State, Outcome, gather, registerTaken, isLast, keeping, writeAccess, readOn, writeOn, checked, readTests, writeTests, confirmed, abandoned}
+use Rattle.station.specs.Calls.{Idle, Reading, Writing, State, Outcome, gather, registerTaken, isLast, keeping, writeAccess, readOn, writeOn, contradicted, checked, readTests, writeTests, confirmed, abandoned}
 use Rattle.station.specs.Kept.{InHand, NoWrite, NotRefused, SameLists, Keeps}
 use Rattle.station.proofs.Refusals.{some≢none, unless-cases}
 
@@ -22,10 +22,15 @@ module _ (t : Tables) (s : State) where
   read-on-keeps true v n g = record { record-kept = refl; marks-kept = refl }
   read-on-keeps false v n g = record { record-kept = refl; marks-kept = refl }
 
+  stop-keeps : (obeyed : Bool) (o : Outcome) (r : ℕ) → SameLists s (o .state) → SameLists s (cond obeyed o (contradicted r s) .state)
+  stop-keeps true o r kept = kept
+  stop-keeps false o r kept = record { record-kept = refl; marks-kept = refl }
+
   confirmed-keeps : (op : Operation) (byte : ℕ) → s .operation ≡ op → NoWrite s → SameLists s (confirmed t s op byte .state)
   confirmed-keeps Idle byte is no-write = untouched s
   confirmed-keeps (Reading v n g) byte is no-write =
-      read-on-keeps (isLast t reading v (suc n)) v (suc n) (gather t v g (registerTaken t reading v n) byte)
+      stop-keeps (obeys t reading (registerTaken t reading v n) byte) _ (registerTaken t reading v n)
+      (read-on-keeps (isLast t reading v (suc n)) v (suc n) (gather t v g (registerTaken t reading v n) byte))
   confirmed-keeps (Writing v n x) byte is no-write = absurd (no-write v n (record { bits = x; is = is }))
 
   -- ── a confirmed write ──

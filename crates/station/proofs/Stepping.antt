@@ -15,16 +15,16 @@ use lib.ListN.{length, getD, set, take, drop, length-set, length-map, length-app
 use lib.Seq.{drop-cons, drop-length, take-length, take-all, getD-set-other}
 use borrow.Author.Tests.{eqb-true, eqb-false, eq-eqb, ne-eqb, ltb-true, leb-true, le-leb, not-false}
 use Rattle.tables.specs.declared.Part.the-variants.{Read as reading, Write as writing}
-use Rattle.tables.specs.View.{Tables, sound, Among, registerCount, registerWidth, isDot, isOne, variableCount, variableHas, kindOf, size, homeOf, spotOf, registersOf}
+use Rattle.tables.specs.View.{Tables, sound, Among, registerCount, registerWidth, isDot, isOne, obeys, variableCount, variableHas, kindOf, size, homeOf, spotOf, registersOf}
 use Rattle.tables.proofs.Consistent.{consistent}
 use Rattle.bits.specs.Bits.{bit, numberOf}
 use Rattle.bits.specs.Values.{encode, decode}
 use Rattle.station.specs.declared.Access.{Access}
 use Rattle.station.specs.declared.Operation.{Operation}
 use Rattle.station.specs.declared.Answer.{Answer}
-use Rattle.station.specs.Calls.{Reading, Writing, Offered, Done, State, Outcome, keptOf, settingsBit, settingsByte, otherBit, writtenByte, gather, registerTaken, stepsOf, accessAt, readAccess, writeAccess, unless, isLong, isAllowed, isGathered, isLast, readOn, writeOn, keeping, checked, readTests, writeTests, beginRead, beginWrite, confirmed}
+use Rattle.station.specs.Calls.{Idle, Reading, Writing, Offered, Done, Refused, Stopped, State, Outcome, keptOf, settingsBit, settingsByte, otherBit, writtenByte, gather, registerTaken, stepsOf, accessAt, readAccess, writeAccess, unless, isLong, isAllowed, isGathered, isLast, readOn, writeOn, keeping, checked, readTests, writeTests, beginRead, beginWrite, confirm, confirmed}
 use Rattle.station.specs.Answers.{refusalOf}
-use Rattle.station.specs.Steps.{Once, readPlan, writePlan, broughtFor, valueRead, answersOf, offersThenDone, GoesByPlan}
+use Rattle.station.specs.Steps.{Once, readPlan, writePlan, broughtFor, valueRead, Obeyed, Ignored, answersOf, offersThenDone, GoesByPlan, StopsAtMisfit}
 use Rattle.bits.proofs.BitLaws.{bits-equal, bit-number, number-lt}
 use Rattle.bits.proofs.ValueLaws.{encode-lt, decode-encode}
 use Rattle.bits.proofs.RangeLaws.{neither}
@@ -56,6 +56,10 @@ brought-at (s ∷ rs) (byte ∷ bytes) (suc i) once few h =
     let inside : i < length rs = omega arith in
     let apart : eqb (getD rs i 0) s ≡ false = ne-eqb _ _ (λ e. once .0 (subst (λ (q : ℕ). Among q rs) e (getD-among rs i inside))) in
     rw apart (brought-at rs bytes i (once .1) (le-of-suc-le-suc few) (le-of-suc-le-suc h))
+
+idle-allowed : (t : Tables) → isAllowed t Idle ≡ true
+unfolding isAllowed
+idle-allowed t = refl
 
 abbrev st : List ℕ → List ℕ → Operation → State
 st k m op = record { kept = k; marks = m; operation = op }
@@ -169,20 +173,53 @@ module _ (t : Tables) (ok : sound t ≡ true) where
       (mentioned t reading v j hj))
       ∙ sym (bit-number (size t reading v) _ j hj))
 
+  -- the bytes to come obey
+  abbrev ObeyedFrom : ℕ → ℕ → List ℕ → Type 0
+  ObeyedFrom v n bytes = (i : ℕ) → i < length bytes → obeys t reading (registerTaken t reading v (n + i)) (getD bytes i 0) ≡ true
+
+  first-obeys : (v n byte : ℕ) (bytes : List ℕ) → ObeyedFrom v n (byte ∷ bytes) → obeys t reading (registerTaken t reading v n) byte ≡ true
+  first-obeys v n byte bytes all = ap (λ (q : ℕ). obeys t reading (registerTaken t reading v q) byte) (sym (at-start n)) ∙ all 0 (omega arith)
+    where
+      at-start : (n : ℕ) → n + 0 ≡ n
+      at-start n = omega arith
+
+  others-obey : (v n byte : ℕ) (bytes : List ℕ) → ObeyedFrom v n (byte ∷ bytes) → ObeyedFrom v (suc n) bytes
+  others-obey v n byte bytes all i hi =
+      ap (λ (q : ℕ). obeys t reading (registerTaken t reading v q) (getD bytes i 0)) (shifted n i) ∙ all (suc i) (omega arith)
+    where
+      shifted : (n i : ℕ) → suc n + i ≡ n + suc i
+      shifted n i = omega arith
+
+  -- a confirmation whose byte obeys, and one whose byte does not
+  confirms-read : (k m : List ℕ) (v n g byte : ℕ) → v < variableCount t → variableHas t reading v ≡ true → isGathered t v n g ≡ true
+      → registerCount t ≤ length k → variableCount t ≤ length m → n < stepsOf t reading v → obeys t reading (registerTaken t reading v n) byte ≡ true
+      → confirm sound t (st k m (Reading v n g)) byte
+      ≡ readOn (isLast t reading v (suc n)) t (st k m (Reading v n g)) v (suc n) (gather t v g (registerTaken t reading v n) byte)
+  confirms-read k m v n g byte hv has is hk hm hn obeyed =
+      passes k m (Reading v n g) (confirmed t (st k m (Reading v n g)) (Reading v n g) byte) hk hm (allow-reading t v n g (is-underway t reading v n hv has hn) is)
+      ∙ rw obeyed refl
+
+  stops-read : (k m : List ℕ) (v n g byte : ℕ) → v < variableCount t → variableHas t reading v ≡ true → isGathered t v n g ≡ true
+      → registerCount t ≤ length k → variableCount t ≤ length m → n < stepsOf t reading v → obeys t reading (registerTaken t reading v n) byte ≡ false
+      → confirm sound t (st k m (Reading v n g)) byte ≡ record { answer = Stopped 52 (registerTaken t reading v n); state = st k m Idle }
+  stops-read k m v n g byte hv has is hk hm hn differs =
+      passes k m (Reading v n g) (confirmed t (st k m (Reading v n g)) (Reading v n g) byte) hk hm (allow-reading t v n g (is-underway t reading v n hv has hn) is)
+      ∙ rw differs refl
+
   reads-from : (bytes k m : List ℕ) (byteOf : ℕ → ℕ) (v n g : ℕ) → v < variableCount t → variableHas t reading v ≡ true → isGathered t v n g ≡ true
       → registerCount t ≤ length k → variableCount t ≤ length m → n < stepsOf t reading v → n + length bytes ≤ stepsOf t reading v
-      → ((i : ℕ) → i < length bytes → getD bytes i 0 ≡ byteOf (registerTaken t reading v (n + i))) → GatheredOf byteOf v n g
+      → ((i : ℕ) → i < length bytes → getD bytes i 0 ≡ byteOf (registerTaken t reading v (n + i))) → ObeyedFrom v n bytes → GatheredOf byteOf v n g
       → answersOf t (record { answer = Offered (readAccess t v n); state = st k m (Reading v n g) }) bytes
       ≡ take (suc (length bytes)) (map Offered (map offeredRead (drop n (registersOf t reading v))) ++ (Done (decode (kindOf t v) (size t reading v) (patternFrom byteOf v)) (stepsOf t reading v) ∷ []))
   unfolding answersOf
-  reads-from [] k m byteOf v n g hv has is hk hm hn hb brought gathered = sym (next-offer offeredRead (registersOf t reading v) n 0 _ hn)
-  reads-from (byte ∷ bytes) k m byteOf v n g hv has is hk hm hn hb brought gathered =
+  reads-from [] k m byteOf v n g hv has is hk hm hn hb brought obeyed gathered = sym (next-offer offeredRead (registersOf t reading v) n 0 _ hn)
+  reads-from (byte ∷ bytes) k m byteOf v n g hv has is hk hm hn hb brought obeyed gathered =
       ap (λ (l : List Answer). Offered (readAccess t v n) ∷ l)
       (ap (λ (o : Outcome). answersOf t o bytes)
-      (passes k m (Reading v n g) (confirmed t s (Reading v n g) byte) hk hm (allow-reading t v n g (is-underway t reading v n hv has hn) is))
+      (confirms-read k m v n g byte hv has is hk hm hn (first-obeys v n byte bytes obeyed))
       ∙ go (isLast t reading v (suc n)) refl
       (λ more. reads-from bytes k m byteOf v (suc n) g′ hv has (gathered-more t v n g byte hn is) hk hm more (omega arith)
-      (λ i hi. brought (suc i) (omega arith) ∙ ap (λ (q : ℕ). byteOf (registerTaken t reading v q)) (shifted n i)) grown))
+      (λ i hi. brought (suc i) (omega arith) ∙ ap (λ (q : ℕ). byteOf (registerTaken t reading v q)) (shifted n i)) (others-obey v n byte bytes obeyed) grown))
       ∙ sym (next-offer offeredRead (registersOf t reading v) n (suc (length bytes)) _ hn)
     where
       r : ℕ
@@ -219,6 +256,53 @@ module _ (t : Tables) (ok : sound t ≡ true) where
           (ap₂ {C = Answer} Done (ap (decode (kindOf t v) (size t reading v)) (complete byteOf v (suc n) g′ last (gather-lt t v g r byte) grown)) last)
       go false e rest = rest (lt-of-le-ne hn (eqb-false (suc n) _ e))
 
+  -- ── a byte that differs ──
+
+  -- what is confirmed with nothing in hand is refused
+  then-idle : (k m more : List ℕ) (a : Answer) → registerCount t ≤ length k → variableCount t ≤ length m
+      → answersOf t (record { answer = a; state = st k m Idle }) more ≡ a ∷ map (λ (b : ℕ). Refused 24) more
+  unfolding answersOf
+  then-idle k m [] a hk hm = refl
+  then-idle k m (byte ∷ more) a hk hm =
+      ap (λ (l : List Answer). a ∷ l)
+      (ap (λ (o : Outcome). answersOf t o more) (passes k m Idle (confirmed t (st k m Idle) Idle byte) hk hm (idle-allowed t)) ∙ then-idle k m more (Refused 24) hk hm)
+
+  stops-from : (bytes more : List ℕ) (byte : ℕ) (k m : List ℕ) (v n g : ℕ) → v < variableCount t → variableHas t reading v ≡ true → isGathered t v n g ≡ true
+      → registerCount t ≤ length k → variableCount t ≤ length m → n + length bytes < stepsOf t reading v → ObeyedFrom v n bytes
+      → obeys t reading (registerTaken t reading v (n + length bytes)) byte ≡ false
+      → answersOf t (record { answer = Offered (readAccess t v n); state = st k m (Reading v n g) }) (bytes ++ (byte ∷ more))
+      ≡ map Offered (take (suc (length bytes)) (map offeredRead (drop n (registersOf t reading v))))
+      ++ (Stopped 52 (registerTaken t reading v (n + length bytes)) ∷ map (λ (b : ℕ). Refused 24) more)
+  unfolding answersOf
+  stops-from [] more byte k m v n g hv has is hk hm hn obeyed differs =
+      ap (λ (l : List Answer). Offered (readAccess t v n) ∷ l)
+      (ap (λ (o : Outcome). answersOf t o more)
+      (stops-read k m v n g byte hv has is hk hm (omega arith) (ap (λ (q : ℕ). obeys t reading (registerTaken t reading v q) byte) (sym (at-start n)) ∙ differs))
+      ∙ then-idle k m more _ hk hm
+      ∙ ap (λ (q : ℕ). Stopped 52 (registerTaken t reading v q) ∷ map (λ (b : ℕ). Refused 24) more) (sym (at-start n)))
+      ∙ sym (ap (λ (l : List ℕ). map Offered (take 1 (map offeredRead l)) ++ (Stopped 52 (registerTaken t reading v (n + 0)) ∷ map (λ (b : ℕ). Refused 24) more))
+      (drop-cons (registersOf t reading v) n 0 (omega arith)))
+    where
+      at-start : (n : ℕ) → n + 0 ≡ n
+      at-start n = omega arith
+  stops-from (first ∷ bytes) more byte k m v n g hv has is hk hm hn obeyed differs =
+      let more-left : suc n ≡ stepsOf t reading v → ⊥ = λ e. omega arith in
+      ap (λ (l : List Answer). Offered (readAccess t v n) ∷ l)
+      (ap (λ (o : Outcome). answersOf t o (bytes ++ (byte ∷ more)))
+      (confirms-read k m v n g first hv has is hk hm (omega arith) (first-obeys v n first bytes obeyed)
+      ∙ ap (λ (last : Bool). readOn last t (st k m (Reading v n g)) v (suc n) (gather t v g (registerTaken t reading v n) first)) (ne-eqb _ _ more-left))
+      ∙ stops-from bytes more byte k m v (suc n) (gather t v g (registerTaken t reading v n) first) hv has (gathered-more t v n g first (omega arith) is) hk hm
+      (omega arith) (others-obey v n first bytes obeyed)
+      (ap (λ (q : ℕ). obeys t reading (registerTaken t reading v q) byte) (shifted n (length bytes)) ∙ differs)
+      ∙ ap (λ (q : ℕ). map Offered (take (suc (length bytes)) (map offeredRead (drop (suc n) (registersOf t reading v))))
+      ++ (Stopped 52 (registerTaken t reading v q) ∷ map (λ (b : ℕ). Refused 24) more)) (shifted n (length bytes)))
+      ∙ sym (ap (λ (l : List ℕ). map Offered (take (suc (suc (length bytes))) (map offeredRead l))
+      ++ (Stopped 52 (registerTaken t reading v (n + suc (length bytes))) ∷ map (λ (b : ℕ). Refused 24) more))
+      (drop-cons (registersOf t reading v) n 0 (omega arith)))
+    where
+      shifted : (n i : ℕ) → suc n + i ≡ n + suc i
+      shifted n i = omega arith
+
 -- ── from a begin ──
 
 -- 20 and 21 as facts
@@ -236,14 +320,14 @@ whole-of accesses value n e =
     (omega (arith, length-append (map Offered accesses) (Done value (length accesses) ∷ []), length-map accesses Offered))
 
 module _ (t : Tables) (s : State) (v : ℕ) where
-  abbrev Answered : List Access → (List ℕ → ℤ) → Outcome → Type 0
-  Answered accesses value o = (bytes : List ℕ) → length bytes ≤ length accesses → answersOf t o bytes ≡ take (suc (length bytes)) (offersThenDone accesses (value bytes))
+  abbrev Answered : List Access → (List ℕ → ℤ) → (List ℕ → Type 0) → Outcome → Type 0
+  Answered accesses value good o = (bytes : List ℕ) → good bytes → length bytes ≤ length accesses → answersOf t o bytes ≡ take (suc (length bytes)) (offersThenDone accesses (value bytes))
 
-  write-answers : (z : ℤ) → refusalOf (beginWrite sound t s v z .answer) ≡ none → Answered (writePlan t s v z) (λ bytes. z) (beginWrite sound t s v z)
+  write-answers : (z : ℤ) → refusalOf (beginWrite sound t s v z .answer) ≡ none → Answered (writePlan t s v z) (λ bytes. z) Ignored (beginWrite sound t s v z)
   write-answers z =
-      unless-cases (λ o. refusalOf (o .answer) ≡ none → Answered (writePlan t s v z) (λ bytes. z) o) (writeTests sound t s v z) s _
+      unless-cases (λ o. refusalOf (o .answer) ≡ none → Answered (writePlan t s v z) (λ bytes. z) Ignored o) (writeTests sound t s v z) s _
       (λ n e. absurd (some≢none n e))
-      (λ passed e bytes few.
+      (λ passed e bytes any few.
       let (is-sound, (is-long, (_, (_, (there, (has, (low, (high, _)))))))) = passed in
       let (ok, hk, hm) = stands t s is-sound is-long in
       let hv = ltb-true _ _ (not-false _ there) in
@@ -255,11 +339,11 @@ module _ (t : Tables) (s : State) (v : ℕ) where
       (some-step t (consistent t ok) writing v hv here) (omega arith) (λ i hi hs. refl)
       ∙ ap₂ (λ (y : ℤ) (n : ℕ). take (suc (length bytes)) (map Offered (writePlan t s v z) ++ (Done y n ∷ []))) (decode-encode (kindOf t v) (size t writing v) z in-range) (sym count))
 
-  read-answers : refusalOf (beginRead sound t s v .answer) ≡ none → Answered (readPlan t v) (valueRead t v) (beginRead sound t s v)
+  read-answers : refusalOf (beginRead sound t s v .answer) ≡ none → Answered (readPlan t v) (valueRead t v) (Obeyed t v) (beginRead sound t s v)
   read-answers =
-      unless-cases (λ o. refusalOf (o .answer) ≡ none → Answered (readPlan t v) (valueRead t v) o) (readTests sound t s v) s _
+      unless-cases (λ o. refusalOf (o .answer) ≡ none → Answered (readPlan t v) (valueRead t v) (Obeyed t v) o) (readTests sound t s v) s _
       (λ n e. absurd (some≢none n e))
-      (λ passed e bytes few.
+      (λ passed e bytes obeyed few.
       let (is-sound, (is-long, (_, (_, (there, (has, _)))))) = passed in
       let (ok, hk, hm) = stands t s is-sound is-long in
       let hv = ltb-true _ _ (not-false _ there) in
@@ -270,8 +354,32 @@ module _ (t : Tables) (s : State) (v : ℕ) where
       (λ i hi.
       brought-at (registersOf t reading v) bytes i (each-once t reading v .once) (omega arith) hi
       ∙ ap (λ (q : ℕ). broughtFor (registersOf t reading v) bytes (registerTaken t reading v q)) (sym (zero-add i)))
+      (λ i hi. ap (λ (q : ℕ). obeys t reading (registerTaken t reading v q) (getD bytes i 0)) (zero-add i) ∙ obeyed i hi)
       (λ j hj nothing. absurd nothing)
       ∙ ap (λ (n : ℕ). take (suc (length bytes)) (map Offered (readPlan t v) ++ (Done (valueRead t v bytes) n ∷ []))) (sym count))
+
+  abbrev Stops : Outcome → Type 0
+  Stops o =
+      (bytes more : List ℕ) (byte : ℕ) → Obeyed t v bytes → length bytes < stepsOf t reading v
+      → obeys t reading (registerTaken t reading v (length bytes)) byte ≡ false
+      → answersOf t o (bytes ++ (byte ∷ more))
+      ≡ map Offered (take (suc (length bytes)) (readPlan t v))
+      ++ (Stopped 52 (registerTaken t reading v (length bytes)) ∷ map (λ (b : ℕ). Refused 24) more)
+
+  pub read-stops : StopsAtMisfit t (beginRead sound t s v) v
+  read-stops =
+      record {
+        stops = unless-cases (λ o. refusalOf (o .answer) ≡ none → Stops o) (readTests sound t s v) s _
+            (λ n e. absurd (some≢none n e))
+            (λ passed e bytes more byte obeyed hn differs.
+            let (is-sound, (is-long, (_, (_, (there, (has, _)))))) = passed in
+            let (ok, hk, hm) = stands t s is-sound is-long in
+            let at : 0 + length bytes ≡ length bytes = zero-add (length bytes) in
+            stops-from t ok bytes more byte (s .kept) (s .marks) v 0 0 (ltb-true _ _ (not-false _ there)) (not-false _ has) (gathered-none t v) hk hm (omega arith)
+            (λ i hi. ap (λ (q : ℕ). obeys t reading (registerTaken t reading v q) (getD bytes i 0)) (zero-add i) ∙ obeyed i hi)
+            (ap (λ (q : ℕ). obeys t reading (registerTaken t reading v q) byte) at ∙ differs)
+            ∙ ap (λ (q : ℕ). map Offered (take (suc (length bytes)) (readPlan t v)) ++ (Stopped 52 (registerTaken t reading v q) ∷ map (λ (b : ℕ). Refused 24) more)) at);
+      }
 
   -- the variable of a begin that was not refused, in sound tables
   abbrev Sound : Outcome → Type 0
@@ -291,21 +399,21 @@ module _ (t : Tables) (s : State) (v : ℕ) where
       let (is-sound, (_, (_, (_, (there, _))))) = passed in
       (not-false _ is-sound, ltb-true _ _ (not-false _ there)))
 
-  pub read-steps : GoesByPlan t (beginRead sound t s v) (readPlan t v) (valueRead t v)
+  pub read-steps : GoesByPlan t (beginRead sound t s v) (readPlan t v) (valueRead t v) (Obeyed t v)
   read-steps =
       record {
         answers = read-answers;
-        whole = λ e bytes all. read-answers e bytes (omega arith) ∙ whole-of (readPlan t v) (valueRead t v bytes) (length bytes) all;
+        whole = λ e bytes obeyed all. read-answers e bytes obeyed (omega arith) ∙ whole-of (readPlan t v) (valueRead t v bytes) (length bytes) all;
         few = λ e.
             let (ok, hv) = sound-read e in
             rw (length-map (registersOf t reading v) (λ (r : ℕ). accessAt t reading r 0)) (at-most-8 t reading v ok hv);
       }
 
-  pub write-steps : (z : ℤ) → GoesByPlan t (beginWrite sound t s v z) (writePlan t s v z) (λ bytes. z)
+  pub write-steps : (z : ℤ) → GoesByPlan t (beginWrite sound t s v z) (writePlan t s v z) (λ bytes. z) Ignored
   write-steps z =
       record {
         answers = write-answers z;
-        whole = λ e bytes all. write-answers z e bytes (omega arith) ∙ whole-of (writePlan t s v z) z (length bytes) all;
+        whole = λ e bytes any all. write-answers z e bytes any (omega arith) ∙ whole-of (writePlan t s v z) z (length bytes) all;
         few = λ e.
             let (ok, hv) = sound-write z e in
             rw (length-map (registersOf t writing v) (λ (r : ℕ). accessAt t writing r (writtenByte t (keptOf s) v (encode (size t writing v) z) r)))

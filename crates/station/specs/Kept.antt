@@ -1,5 +1,7 @@
--- What is kept from one opening to the next: what each call does to the record and to the marks. A call that is refused leaves them (Answers.antt).
--- proofs/KeptLaws.antt proves `Keeps`, from any state.
+-- What is kept from one opening to the next: what each call does to the record and to the marks. A call that is refused
+-- leaves them (Answers.antt), also where the refusal ends the operation. 02: "An operation so ended counts as
+-- abandoned"; it is a read, so `read-abandoned` and `read-confirmed` agree. proofs/KeptLaws.antt proves `Keeps`, from
+-- any state.
 -- Assumes nothing.
 use Prim.Native.Nat.{ℕ, suc}
 use mathlib.Core.Path.{_≡_}

@@ -1,7 +1,8 @@
--- Demand 2's step order: "Each read and write is exactly the accesses that the definition gives, in its order, and is called done at the last
--- confirmation and never sooner." The definition is a plan, a list of accesses that is made when the operation begins. What a plan is stands here in the order of
--- document 01, then what answers it gives. proofs/Stepping.antt proves `GoesByPlan` of both begins, from any state; proofs/Distinct.antt proves `EachOnce`,
--- proofs/ByteLaws.antt `ByteRight`.
+-- Demand 2's step order: "Each read and write is exactly the accesses that the definition gives, in its order, and is
+-- called done at the last confirmation and never sooner." The definition is a plan, a list of accesses that is made
+-- when the operation begins. What a plan is stands here in the order of document 01, then what answers it gives.
+-- proofs/Stepping.antt proves `GoesByPlan` of both begins and `StopsAtMisfit` of a read's, from any state;
+-- proofs/Distinct.antt proves `EachOnce`, proofs/ByteLaws.antt `ByteRight` and `ObeysRight`.
 -- Assumes nothing.
 use Prim.Native.Nat.{ℕ, suc, _≤_, _<_, _^_}
 use mathlib.Core.Path.{_≡_}
@@ -10,16 +11,16 @@ use mathlib.Core.List.{List, [], _∷_, _++_, map}
 use mathlib.Core.Option.{none}
 use lib.Dec.{eqb}
 use lib.IntN.{ℤ}
-use lib.ListN.{length, take}
+use lib.ListN.{length, getD, take}
 use Rattle.tables.specs.declared.Part.{Part}
 use Rattle.tables.specs.declared.Part.the-variants.{Read as reading, Write as writing}
-use Rattle.tables.specs.View.{Tables, sound, Among, registerWidth, isDot, isOne, kindOf, size, homeOf, spotOf, registersOf}
+use Rattle.tables.specs.View.{Tables, sound, Among, registerWidth, isDot, isFixed, isOne, obeys, kindOf, size, homeOf, spotOf, registersOf}
 use Rattle.bits.specs.Bits.{bit, numberOf}
 use Rattle.bits.specs.Values.{encode, decode}
 use Rattle.station.specs.declared.Access.{Access}
 use Rattle.station.specs.declared.Answer.{Answer}
-use Rattle.station.specs.declared.Answer.the-variants.{Offer as Offered, Done}
-use Rattle.station.specs.Calls.{State, Outcome, keptOf, accessAt, writtenByte, confirm}
+use Rattle.station.specs.declared.Answer.the-variants.{Refused, Stopped, Offer as Offered, Done}
+use Rattle.station.specs.Calls.{State, Outcome, keptOf, registerTaken, stepsOf, accessAt, writtenByte, confirm}
 use Rattle.station.specs.Answers.{refusalOf}
 
 -- ── "Registers are taken in order of first mention in the part, each once." ──
@@ -59,7 +60,7 @@ pub record ByteRight (t : Tables) (kept : ℕ → ℕ) (v x r byte : ℕ) : Type
   pub from-mask : (b : ℕ) → b < registerWidth t r → isDot t writing r b ≡ false → bit b byte ≡ isOne t writing r b
   pub narrow : byte < 2 ^ registerWidth t r
 
--- ── "Reading uses only the variable's bits; fixed read bits aren't compared. Signed values are two's complement." ──
+-- ── "Reading uses only the variable's bits. Signed values are two's complement." ──
 
 -- the byte that the confirmations, one for each of these registers, brought for register r
 abbrev pub broughtFor : List ℕ → List ℕ → ℕ → ℕ
@@ -73,6 +74,19 @@ valueRead t v bytes =
     decode (kindOf t v) (size t reading v)
     (numberOf (size t reading v) (λ j. bit (spotOf t reading v j) (broughtFor (registersOf t reading v) bytes (homeOf t reading v j))))
 
+-- 02 on fixed read bits: `obeys`, which compares words, says bit by bit that none of them differs from the byte
+pub record ObeysRight (t : Tables) (r byte : ℕ) : Type 0 where
+  pub each : obeys t reading r byte ≡ true → (b : ℕ) → isFixed t reading r b ≡ true → bit b byte ≡ isOne t reading r b
+  pub all : ((b : ℕ) → isFixed t reading r b ≡ true → bit b byte ≡ isOne t reading r b) → obeys t reading r byte ≡ true
+
+-- the bytes brought obey, each its register
+abbrev pub Obeyed : Tables → ℕ → List ℕ → Type 0
+Obeyed t v bytes = (i : ℕ) → i < length bytes → obeys t reading (registerTaken t reading v i) (getD bytes i 0) ≡ true
+
+-- the byte that a write's confirmation brings is ignored
+abbrev pub Ignored : List ℕ → Type 0
+Ignored bytes = Unit {0}
+
 -- ── "A begin offers the first access; each confirmation offers the next or says done." ──
 
 -- the answers to a begin, whose outcome this is, and to the confirmations that bring these bytes
@@ -84,12 +98,24 @@ answersOf t o (byte ∷ bytes) = o .answer ∷ answersOf t (confirm sound t (o .
 abbrev pub offersThenDone : List Access → ℤ → List Answer
 offersThenDone accesses value = map Offered accesses ++ (Done value (length accesses) ∷ [])
 
--- a begin that was not refused is answered so, up to each of its confirmations; a write's confirmations bring "a byte that is ignored"
-pub record GoesByPlan (t : Tables) (begin : Outcome) (accesses : List Access) (value : List ℕ → ℤ) : Type 0 where
-  pub answers : refusalOf (begin .answer) ≡ none → (bytes : List ℕ) → length bytes ≤ length accesses
+-- a begin that was not refused is answered so, up to each of its confirmations, where the bytes that they bring are
+-- good: where they obey, for a read; a write's confirmations bring "a byte that is ignored"
+pub record GoesByPlan (t : Tables) (begin : Outcome) (accesses : List Access) (value : List ℕ → ℤ) (good : List ℕ → Type 0) : Type 0 where
+  pub answers : refusalOf (begin .answer) ≡ none → (bytes : List ℕ) → good bytes → length bytes ≤ length accesses
       → answersOf t begin bytes ≡ take (suc (length bytes)) (offersThenDone accesses (value bytes))
   -- "An operation ends after exactly as many confirmations as the part has distinct registers": with all of them, that is every answer
-  pub whole : refusalOf (begin .answer) ≡ none → (bytes : List ℕ) → length bytes ≡ length accesses
+  pub whole : refusalOf (begin .answer) ≡ none → (bytes : List ℕ) → good bytes → length bytes ≡ length accesses
       → answersOf t begin bytes ≡ offersThenDone accesses (value bytes)
   -- "at most 8"
   pub few : refusalOf (begin .answer) ≡ none → length accesses ≤ 8
+
+-- ── 02: "A confirmed read whose fixed mask bits differ from the byte is refused .., and the operation ends." ──
+
+-- of a read that was begun: at the first byte that differs the answer is 52 with its register, and what is confirmed
+-- after it has nothing in hand
+pub record StopsAtMisfit (t : Tables) (begin : Outcome) (v : ℕ) : Type 0 where
+  pub stops : refusalOf (begin .answer) ≡ none → (bytes more : List ℕ) (byte : ℕ) → Obeyed t v bytes → length bytes < stepsOf t reading v
+      → obeys t reading (registerTaken t reading v (length bytes)) byte ≡ false
+      → answersOf t begin (bytes ++ (byte ∷ more))
+      ≡ map Offered (take (suc (length bytes)) (readPlan t v))
+      ++ (Stopped 52 (registerTaken t reading v (length bytes)) ∷ map (λ (b : ℕ). Refused 24) more)

@@ -4,7 +4,7 @@ ghost use Prim.Native.Nat.{_≤_, _<_};
 ghost use lib.ListN.{getD};
 ghost use Rattle.wiring.specs.Pieces.{Usable};
 ghost use Rattle.station.specs.Variable.{partOf, widthOf, Byte};
-ghost use Rattle.station.specs.Access.{cellOf, byteToWrite, gatherByte, accessOf, readAccess, writeAccess};
+ghost use Rattle.station.specs.Access.{cellOf, byteToWrite, fitsMask, gatherByte, accessOf, readAccess, writeAccess};
 use crate::Access;
 use crate::variable::part_of;
 use crate::variable::register_of;
@@ -53,6 +53,17 @@ pub fn byte_to_write(
     let width = tables::words::word(registers, 15 * r + 1 + 2);
     let byte = wiring::assemble(variables, part, Rule::Written(cell, value), width);
     byte as u8
+}
+
+// Has the byte that was read at the fixed bits of the register's read mask what is fixed there?
+pub fn fits_mask(registers: &[u32], r: usize, byte: u8) -> bool
+    requires { ⌜ r < 64 ⌝ }
+    ensures { λ a. ⌜ a ≡ fitsMask (now (registers .entry)) r byte ⌝ }
+{
+    let fixed = tables::words::word(registers, 15 * r + 4 + 6 * 0 + 4);
+    let ones = tables::words::word(registers, 15 * r + 4 + 6 * 0 + 5);
+    let brought = byte as usize;
+    brought & fixed == ones
 }
 
 pub fn gather_byte(variables: &[u32], v: usize, n: usize, so_far: usize, byte: u8) -> usize

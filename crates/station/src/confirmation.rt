@@ -1,19 +1,21 @@
-// A confirmation: it offers the next access, or says done at the last.
+// A confirmation: it offers the next access, or says done at the last; or the byte read contradicts its register, and
+// the read is over.
 ghost use mathlib.Core.Path.{_≡_};
 ghost use Prim.Native.Nat.{_+_, _≤_, _<_, _^_};
 ghost use lib.ListN.{length};
 ghost use Rattle.tables.specs.Words.{wordAt};
 ghost use Rattle.station.specs.Variable.{widthOf, accessCount, Ready};
-ghost use Rattle.station.specs.Access.{gatherByte};
 ghost use Rattle.station.specs.Standing.{tablesOf};
-ghost use Rattle.station.specs.Station.{Leaves, nextRead, nextWrite, heldAfter};
+ghost use Rattle.station.specs.Station.{Leaves, nextRead, afterRead, nextWrite, heldAfter};
 ghost use Rattle.tables.specs.View.{sound};
 ghost use Rattle.station.specs.Calls.{confirm};
 ghost use Rattle.station.specs.Promise.{lent, Meets};
 use crate::Operation;
 use crate::Outcome;
 use crate::accesses::byte_to_write;
+use crate::accesses::fits_mask;
 use crate::accesses::gather_byte;
+use crate::outcomes::contradict;
 use crate::outcomes::finish;
 use crate::outcomes::offer_read;
 use crate::outcomes::offer_write;
@@ -87,7 +89,7 @@ fn record_byte(
     held[r] = byte;
 }
 
-// An access of the read in hand is confirmed, and brought this byte.
+// An access of the read in hand is confirmed, and brought this byte: its fixed bits are compared first of all.
 fn confirm_read(
     registers: &[u32],
     variables: &[u32],
@@ -98,8 +100,12 @@ fn confirm_read(
 ) -> Outcome
     requires { ⌜ Ready (now registers) (now variables) v 0 ⌝ }
     requires { ⌜ step < accessCount (now variables) v 0 ⌝ }
-    ensures { λ r. ⌜ r ≡ nextRead (now (registers .entry)) (now (variables .entry)) v (step + 1) (gatherByte (now (variables .entry)) v step gathered byte) ⌝ }
+    ensures { λ r. ⌜ r ≡ afterRead (now (registers .entry)) (now (variables .entry)) v step gathered byte ⌝ }
 {
+    let register = register_of(variables, v, 0, step);
+    if !fits_mask(registers, register, byte) {
+        return contradict(register);
+    }
     let next = step + 1;
     let value = gather_byte(variables, v, step, gathered, byte);
     next_read(registers, variables, v, next, value)

@@ -1,9 +1,9 @@
-// What a call comes to: a refusal, the offer of an access, done, or abandoned.
+// What a call comes to: a refusal, the offer of an access, done, abandoned, or stopped.
 ghost use mathlib.Core.Path.{_≡_};
 ghost use Prim.Native.Nat.{_≤_, _<_, _^_};
 ghost use Rattle.wiring.specs.Pieces.{Usable};
 ghost use Rattle.station.specs.Variable.{partOf, widthOf, accessCount, Ready};
-ghost use Rattle.station.specs.Station.{outcomeOf, refusal, offeredRead, offeredWrite, finished};
+ghost use Rattle.station.specs.Station.{outcomeOf, refusal, contradicted, offeredRead, offeredWrite, finished};
 use crate::Answer;
 use crate::Operation;
 use crate::Outcome;
@@ -85,6 +85,19 @@ pub fn finish(variables: &[u32], v: usize, side: usize, value: usize) -> Outcome
         answer: Answer::Done {
             value: number,
             accesses,
+        },
+    }
+}
+
+// The byte that was read contradicts its register: the refusal names it, and the read is over.
+pub fn contradict(register: usize) -> Outcome
+    ensures { λ r. ⌜ r ≡ contradicted register ⌝ }
+{
+    Outcome {
+        operation: Operation::Idle,
+        answer: Answer::Stopped {
+            number: 52,
+            register,
         },
     }
 }

@@ -88,6 +88,9 @@ pub fn answer_of(words: &[i64; ANSWER_WORDS]) -> Answer {
             accesses: number(accesses),
         },
         [4, 0, 0, 0, 0] => Answer::Abandoned,
+        [5, 52, register, 0, 0] => Answer::Contradicted {
+            register: number(register),
+        },
         _ => panic!("no answer: {words:?}"),
     }
 }

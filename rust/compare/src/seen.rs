@@ -17,6 +17,7 @@ impl Seen {
     pub fn answer(&mut self, answer: Answer) {
         match answer {
             Answer::Refused(number) => self.note(format!("refused {number:02}")),
+            Answer::Contradicted { .. } => self.note("refused 52"),
             other => {
                 let line = other.to_string();
                 self.note(line.split(' ').next().unwrap_or_default());

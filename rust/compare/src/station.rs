@@ -41,6 +41,7 @@ fn answered(answer: desfanuk::Answer) -> Answer {
         }),
         desfanuk::Answer::Done { value, accesses } => Answer::Done { value, accesses },
         desfanuk::Answer::Refused(refusal) => refused(refusal),
+        desfanuk::Answer::Contradicted { register } => Answer::Contradicted { register },
     }
 }
 

@@ -44,7 +44,12 @@ fn reading_gives_the_value_last_finished() {
         ["read back", "half-written", "abandoned"],
         1000,
     );
-    seen.require("those of shared places", ["from a shared place"], 100);
+    seen.require(
+        "those of shared places, and contradictions",
+        ["from a shared place", "contradicted"],
+        100,
+    );
+    seen.require("those that must succeed", ["under the premise"], 1000);
 }
 
 /// "Start two boards from equal power-on bytes and write every plain variable once, each value in

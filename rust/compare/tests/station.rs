@@ -9,7 +9,7 @@ use second::generate::{damaged_tables, every_step, run, sound_tables, valid, Ran
 use second::replay::Call;
 use second::{load, tables, Answer, Description, Operation, Verdict};
 
-const ANSWERS: [&str; 14] = [
+const ANSWERS: [&str; 15] = [
     "opened",
     "offer",
     "done",
@@ -23,6 +23,7 @@ const ANSWERS: [&str; 14] = [
     "refused 26",
     "refused 27",
     "refused 28",
+    "refused 52",
     "refused 55",
 ];
 
@@ -174,6 +175,7 @@ fn every_operation_held() {
         Call::Read(0),
         Call::Write(1, -1),
         Call::Confirm(0xC3),
+        Call::Confirm(0xFF),
         Call::Abandon,
     ];
     let mut seen = Seen::default();
@@ -204,7 +206,14 @@ fn every_operation_held() {
     }
     seen.require(
         "operations held",
-        ["refused 22", "refused 23", "offer", "done", "abandoned"],
+        [
+            "refused 22",
+            "refused 23",
+            "refused 52",
+            "offer",
+            "done",
+            "abandoned",
+        ],
         100,
     );
 }

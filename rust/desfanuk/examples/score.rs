@@ -1,5 +1,5 @@
 //! A score in two registers of a scoring board: written, read back, abandoned midway, and written
-//! again. The board is a simulated one, four bytes of storage.
+//! again; at the end the cable is pulled. The board is a simulated one, four bytes of storage.
 //!
 //!     cargo run --offline --release -p desfanuk --example score [DESCRIPTION]
 //!
@@ -12,11 +12,12 @@ use desfanuk::{Access, Description, Direction, Done, Ports, Station, Stopped};
 
 const SCORING: &str = concat!(env!("CARGO_MANIFEST_DIR"), "/../../boards/scoring.devil");
 
-/// The board: a byte for each offset, and how many accesses it still answers. It notes what
-/// happens.
+/// The board: a byte for each offset, how many accesses it still answers, and whether its cable is
+/// in. It notes what happens.
 struct Board {
     bytes: [u8; 4],
     patience: usize,
+    is_plugged: bool,
     notes: String,
 }
 
@@ -33,6 +34,9 @@ impl Ports for Board {
         self.patience -= 1;
         let Access { offset, byte, .. } = access;
         let cell = &mut self.bytes[usize::from(offset)];
+        if !self.is_plugged {
+            *cell = 0xFF;
+        }
         self.notes += &match access.direction {
             Direction::Read => format!("  read at base + {offset}: 0x{cell:02X}\n"),
             Direction::Write => {
@@ -50,6 +54,7 @@ fn ending(ended: Result<Done, Stopped<TimedOut>>) -> String {
         Ok(Done { value, accesses }) => format!("  done: {value}, in {accesses} accesses\n"),
         Err(Stopped::Refused(refusal)) => format!("  {refusal}\n"),
         Err(Stopped::Outside(outside)) => format!("  {outside}\n"),
+        Err(Stopped::Contradicted(contradiction)) => format!("  {contradiction}\n"),
         Err(Stopped::Failed(TimedOut)) => "  the board does not answer: abandoned\n".to_string(),
     }
 }
@@ -62,6 +67,7 @@ pub fn story(text: Vec<u8>) -> Result<String, Box<dyn Error>> {
     let mut board = Board {
         bytes: [0; 4],
         patience: 0,
+        is_plugged: true,
         notes: format!(
             "The board has {} registers and {} variables.\n",
             description.registers(),
@@ -93,6 +99,11 @@ pub fn story(text: Vec<u8>) -> Result<String, Box<dyn Error>> {
         };
         board.notes += &ending(ended);
     }
+    board.notes += "Pull the cable, so that all reads give ones, and read the score.\n";
+    board.is_plugged = false;
+    board.patience = 2;
+    let ended = station.read(score, &mut board);
+    board.notes += &ending(ended);
     Ok(board.notes)
 }
 

@@ -217,6 +217,18 @@ impl Description {
         }
     }
 
+    /// The bits of a byte that are not what a register's read mask has fixed, if there is a register
+    /// of this index and it can be read. A read that brings such a byte is refused by 52.
+    pub fn contradicting(&self, register: usize, byte: u8) -> Option<u8> {
+        if register >= self.registers() {
+            return None;
+        }
+        let [has, fixed, ones] =
+            [4, 8, 9].map(|word| self.tables.registers[REGISTER_ENTRY * register + word]);
+        let bits = (u32::from(byte) & fixed) ^ ones;
+        (has == 1).then_some(u8::try_from(bits).expect("bits of a byte"))
+    }
+
     fn name(&self, table: &[u32], entry: usize, index: usize) -> Option<&str> {
         if index >= table[0] as usize {
             return None;

@@ -16,7 +16,7 @@
 //! use desfanuk::{Access, Answer, Description, Direction, Refusal, Station};
 //!
 //! let text = "device scoring(base : bit[8] port @ {0..1}) {
-//!     register high = base @ 0, mask '****....' : bit[8];
+//!     register high = base @ 0, mask '0000....' : bit[8];
 //!     register low = base @ 1 : bit[8];
 //!     variable score = high[3..0] # low : int(12);
 //! }";
@@ -52,4 +52,4 @@ pub mod raw;
 pub use description::{Description, Refused, Tables, Verdict};
 pub use refusal::Refusal;
 pub use station::{Access, Answer, Direction, Operation, Station};
-pub use through::{Done, Outside, Ports, Stopped};
+pub use through::{Contradiction, Done, Outside, Ports, Stopped};

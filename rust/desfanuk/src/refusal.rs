@@ -7,7 +7,7 @@ use std::fmt;
 macro_rules! refusals {
     ($($name:ident = $number:literal, $words:literal;)*) => {
         /// Why a description or a call was refused. Only one is ever answered, and every refused
-        /// call leaves all as it was.
+        /// call leaves all as it was, but that 52 ends the read.
         #[derive(Clone, Copy, Debug, PartialEq, Eq, PartialOrd, Ord, Hash)]
         #[non_exhaustive]
         #[repr(u8)]
@@ -71,6 +71,7 @@ refusals! {
     NoPart = 26, "the variable has not that part";
     TooLow = 27, "the value is below the least of the variable's type";
     HalfWritten = 28, "the variable is half-written";
+    Contradicted = 52, "the byte read differs from a fixed bit of its register's read mask";
     TooHigh = 55, "the value is above the greatest of the variable's type";
 }
 

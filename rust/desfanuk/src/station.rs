@@ -32,6 +32,9 @@ pub enum Answer {
     Done { value: i64, accesses: usize },
     /// Nothing changed, and nothing is offered.
     Refused(Refusal),
+    /// The byte that was read contradicts the fixed bits of this register, by its index: refused by 52
+    /// ([`Refusal::Contradicted`]), and the read is over, without a value. Nothing else changed.
+    Contradicted { register: usize },
 }
 
 /// The operation in hand. Its step is the number of its accesses confirmed so far; `gathered` and
@@ -119,8 +122,8 @@ impl<'d> Station<'d> {
         answered(answer)
     }
 
-    /// Confirms that the access on offer was performed, once. The byte is what was read; for a
-    /// write it is ignored.
+    /// Confirms that the access on offer was performed, once. The byte is what was read, and its fixed
+    /// bits must be as the register's read mask has them; for a write it is ignored.
     pub fn confirm(&mut self, byte: u8) -> Answer {
         let mut answer = [0; ANSWER_WORDS];
         raw::confirm(
@@ -215,6 +218,9 @@ fn answered(words: [i64; ANSWER_WORDS]) -> Answer {
         [3, value, accesses, 0, 0] => Answer::Done {
             value,
             accesses: number(accesses),
+        },
+        [5, 52, register, 0, 0] => Answer::Contradicted {
+            register: number(register),
         },
         _ => unreachable!("a begin or a confirmation answers, not {words:?}"),
     }

@@ -55,13 +55,46 @@ impl fmt::Display for Outside {
 
 impl Error for Outside {}
 
+/// A byte that was read and contradicts its register, and the bits of it that do.
+#[derive(Clone, Debug, PartialEq, Eq)]
+pub struct Contradiction {
+    /// The register's index.
+    pub register: usize,
+    /// Its name in the text.
+    pub name: String,
+    pub byte: u8,
+    /// The bits at which the byte is not what the register's read mask has fixed.
+    pub bits: u8,
+}
+
+impl fmt::Display for Contradiction {
+    fn fmt(&self, f: &mut fmt::Formatter<'_>) -> fmt::Result {
+        let Contradiction {
+            name, byte, bits, ..
+        } = self;
+        let number = Refusal::Contradicted.number();
+        write!(f, "refused ({number}): {name} gave 0x{byte:02X}")?;
+        let mut link = ": bit";
+        for bit in (0..8).rev().filter(|bit| bits >> bit & 1 == 1) {
+            let fixed = 1 - (byte >> bit & 1);
+            write!(f, "{link} {bit} is fixed at {fixed}")?;
+            link = ", bit";
+        }
+        Ok(())
+    }
+}
+
+impl Error for Contradiction {}
+
 /// Why a read or write is not done.
-#[derive(Clone, Copy, Debug, PartialEq, Eq)]
+#[derive(Clone, Debug, PartialEq, Eq)]
 pub enum Stopped<F> {
     /// It was refused, and no access was performed.
     Refused(Refusal),
     /// The value to be written is too low (27) or too high (55), and no access was performed.
     Outside(Outside),
+    /// A byte that was read contradicts its register (52), as from a dead cable: the read is over.
+    Contradicted(Contradiction),
     /// An access failed, and the operation was abandoned: a write leaves its variable half-written.
     Failed(F),
 }
@@ -71,6 +104,7 @@ impl<F: fmt::Display> fmt::Display for Stopped<F> {
         match self {
             Stopped::Refused(refusal) => refusal.fmt(f),
             Stopped::Outside(outside) => outside.fmt(f),
+            Stopped::Contradicted(contradiction) => contradiction.fmt(f),
             Stopped::Failed(failure) => write!(f, "abandoned: {failure}"),
         }
     }
@@ -115,10 +149,14 @@ impl Station<'_> {
         ports: &mut P,
     ) -> Result<Done, Stopped<P::Failure>> {
         let mut answer = begun;
+        let mut byte = 0;
         loop {
             answer = match answer {
                 Answer::Offer(access) => match ports.perform(access) {
-                    Ok(byte) => self.confirm(byte),
+                    Ok(brought) => {
+                        byte = brought;
+                        self.confirm(byte)
+                    }
                     Err(failure) => {
                         self.abandon().expect("an operation is in hand");
                         return Err(Stopped::Failed(failure));
@@ -126,7 +164,23 @@ impl Station<'_> {
                 },
                 Answer::Done { value, accesses } => return Ok(Done { value, accesses }),
                 Answer::Refused(refusal) => return Err(Stopped::Refused(refusal)),
+                Answer::Contradicted { register } => {
+                    return Err(Stopped::Contradicted(self.contradiction(register, byte)))
+                }
             };
+        }
+    }
+
+    fn contradiction(&self, register: usize, byte: u8) -> Contradiction {
+        let description = self.description();
+        let name = description.register_name(register).expect("a register");
+        Contradiction {
+            register,
+            name: name.to_string(),
+            byte,
+            bits: description
+                .contradicting(register, byte)
+                .expect("it is read"),
         }
     }
 }

@@ -86,6 +86,8 @@ fn the_numbers_of_the_header_are_those_of_the_crate() {
              DESFANUK_GREATEST({kind}, {width}) == {greatest} ? 1 : -1];\n"
         );
     }
+    program += "typedef char contradicting[DESFANUK_CONTRADICTING(0xD0, 0x40, 0xFF) == 0x90 && \
+                DESFANUK_CONTRADICTING(0xD0, 0x40, 0x65) == 0 ? 1 : -1];\n";
     let path = scratch("numbers.c");
     fs::write(&path, program).expect("written");
     for language in [

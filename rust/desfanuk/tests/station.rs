@@ -165,6 +165,73 @@ fn a_value_outside_is_told_in_words() {
     assert_eq!(ports.bytes, POWER_ON);
 }
 
+/// A dead cable reads as all ones, and a register with a bit fixed at 0 tells.
+#[test]
+fn a_contradicting_byte_ends_the_read() {
+    let description = Description::load(
+        "device d(b:bit[8] port@{0..1}){register r=b@0,mask '****....':bit[8];\
+        register s=b@1,mask '0001....':bit[8];variable v=r[3..0]#s[3..0]:int(8);}",
+    )
+    .expect("a good description");
+    let mut station = Station::open(&description, &[0, 0x10]).expect("enough bytes");
+    assert_eq!(station.begin_read(0), read(0));
+    assert_eq!(station.confirm(0xFF), read(1));
+    let stopped = Answer::Contradicted { register: 1 };
+    assert_eq!(station.confirm(0xFF), stopped);
+    assert_eq!(station.operation(), Operation::Idle);
+    assert_eq!(station.confirm(0x1F), Answer::Refused(Refusal::Idle));
+    assert_eq!(station.begin_read(0), read(0));
+    assert_eq!(station.confirm(0xF2), read(1));
+    assert_eq!(station.confirm(0x13), done(0x23, 2));
+    assert_eq!(station.record(), [0, 0x10]);
+    assert_eq!(description.contradicting(0, 0xFF), Some(0));
+    assert_eq!(description.contradicting(1, 0xFF), Some(0xE0));
+    assert_eq!(description.contradicting(2, 0xFF), None);
+}
+
+/// Ports that read the same byte everywhere.
+struct Wire(u8);
+
+impl Ports for Wire {
+    type Failure = u8;
+
+    fn perform(&mut self, _: Access) -> Result<u8, u8> {
+        Ok(self.0)
+    }
+}
+
+/// The error has the register's name and each bit that contradicts, the highest first.
+#[test]
+fn a_contradiction_is_told_in_words() {
+    let description = Description::load(
+        "device d(b:bit[8] port){register status=b,mask '01*0....':bit[8];variable v=status[3..0]:int(4);}",
+    )
+    .expect("a good description");
+    let mut station = Station::open(&description, &[0x40]).expect("enough bytes");
+    for (byte, bits, words) in [
+        (0xFF, 0x90, "bit 7 is fixed at 0, bit 4 is fixed at 0"),
+        (0x00, 0x40, "bit 6 is fixed at 1"),
+    ] {
+        let stopped = station
+            .read(0, &mut Wire(byte))
+            .expect_err("a contradiction");
+        assert_eq!(
+            stopped.to_string(),
+            format!("refused (52): status gave 0x{byte:02X}: {words}")
+        );
+        let Stopped::Contradicted(told) = stopped else {
+            panic!("{stopped}");
+        };
+        assert_eq!((told.register, told.byte, told.bits), (0, byte, bits));
+        assert_eq!(station.operation(), Operation::Idle);
+    }
+    let read = Done {
+        value: 5,
+        accesses: 1,
+    };
+    assert_eq!(station.read(0, &mut Wire(0x65)), Ok(read));
+}
+
 #[test]
 fn an_abandoned_write_is_half_written_until_one_finishes() {
     let description = description();

@@ -19,7 +19,7 @@ pub trait Calls {
 /// register at that write place whose fixed bits it matches.
 pub struct Board {
     pub cells: Vec<u8>,
-    reads: HashMap<(usize, u32), usize>,
+    reads: HashMap<(usize, u32), (usize, Mask)>,
     writes: HashMap<(usize, u32), Vec<(usize, Mask)>>,
 }
 
@@ -32,7 +32,8 @@ impl Board {
         };
         for (index, register) in description.registers.iter().enumerate() {
             if let Some(port) = register.read {
-                board.reads.insert((port.parameter, port.offset), index);
+                let place = (port.parameter, port.offset);
+                board.reads.insert(place, (index, port.mask));
             }
             if let Some(port) = register.write {
                 let place = (port.parameter, port.offset);
@@ -48,7 +49,7 @@ impl Board {
     pub fn perform(&mut self, access: Access) -> u8 {
         let place = (access.parameter, access.offset);
         match access.direction {
-            Part::Read => self.cells[self.reads[&place]],
+            Part::Read => self.cells[self.reads[&place].0],
             Part::Write => {
                 let there = self.writes[&place].iter();
                 let takers: Vec<usize> = there
@@ -61,6 +62,56 @@ impl Board {
             }
         }
     }
+
+    /// The register that an access reads, if its cell contradicts the fixed bits of its read mask.
+    fn contradicts(&self, access: Access) -> Option<usize> {
+        if access.direction == Part::Write {
+            return None;
+        }
+        let (register, mask) = self.reads[&(access.parameter, access.offset)];
+        (!mask.fits(self.cells[register])).then_some(register)
+    }
+}
+
+/// The read-back's premise of a description: registers with both parts have one mask for both.
+pub fn one_mask_each(description: &Description) -> bool {
+    description
+        .registers
+        .iter()
+        .all(|register| match (register.read, register.write) {
+            (Some(read), Some(write)) => read.mask == write.mask,
+            _ => true,
+        })
+}
+
+/// Its premise of power-on bytes: each obeys the masks of its register.
+pub fn masks_obeyed(description: &Description, power: &[u8]) -> bool {
+    description
+        .registers
+        .iter()
+        .zip(power)
+        .all(|(register, byte)| {
+            let ports = [register.read, register.write];
+            ports.iter().flatten().all(|port| port.mask.fits(*byte))
+        })
+}
+
+/// Power-on bytes: mostly such that obey the masks, where one byte can obey both.
+pub fn power_on(random: &mut Random, description: &Description) -> Vec<u8> {
+    let careless = random.one_in(4);
+    description
+        .registers
+        .iter()
+        .map(|register| {
+            let mut byte = random.byte();
+            for port in [register.write, register.read].iter().flatten() {
+                if !careless {
+                    byte = port.mask.obeying(byte);
+                }
+            }
+            byte
+        })
+        .collect()
 }
 
 /// Not volatile, no trigger, read and written through the same bits in the same order.
@@ -139,13 +190,20 @@ pub fn to_its_end(
             }
             Answer::Offer(access) => {
                 confirmed += 1;
+                let contradicted = board.contradicts(access);
                 answer = station.confirm(board.perform(access));
+                let named = match answer {
+                    Answer::Contradicted { register } => Some(register),
+                    _ => None,
+                };
+                assert_eq!(named, contradicted, "the confirmation of {access:?}");
             }
             Answer::Done { value, accesses } => {
                 assert_eq!(accesses, confirmed);
                 return Ended::Done(value);
             }
             Answer::Refused(number) => return Ended::Refused(number),
+            Answer::Contradicted { .. } => return Ended::Refused(52),
             other => panic!("{other}"),
         }
     }
@@ -153,8 +211,9 @@ pub fn to_its_end(
 
 /// From one opening on, so many reads and writes of a description that has variables, some of them
 /// abandoned: each read of a plain variable gives the value last finished for it, or its power-on
-/// bits if none was, and is refused as half-written where its own write was abandoned. Tells `note`
-/// what it saw.
+/// bits if none was, and is refused as half-written where its own write was abandoned. Where a
+/// register has two masks, or a power-on byte contradicts its own, a read may be refused by 52
+/// instead. Tells `note` what it saw.
 pub fn watch(
     random: &mut Random,
     description: &Description,
@@ -162,11 +221,8 @@ pub fn watch(
     operations: usize,
     note: &mut dyn FnMut(&'static str),
 ) {
-    let power: Vec<u8> = description
-        .registers
-        .iter()
-        .map(|_| random.byte())
-        .collect();
+    let power = power_on(random, description);
+    let premise = one_mask_each(description) && masks_obeyed(description, &power);
     assert_eq!(station.open(&power), Answer::Opened);
     let mut board = Board::new(description, &power);
     let at_power_on =
@@ -195,8 +251,12 @@ pub fn watch(
             let ended = to_its_end(random, station, &mut board, begun, 6);
             let seen = seen_of(known[index], ended);
             note(seen);
-            if seen == "read back" && shares_a_place(description, variable) {
-                note("from a shared place");
+            assert!(!premise || seen != "contradicted", "under the premise");
+            if seen == "read back" && premise {
+                note("under the premise");
+                if shares_a_place(description, variable) {
+                    note("from a shared place");
+                }
             }
         }
     }
@@ -217,6 +277,7 @@ fn seen_of(known: Option<Known>, ended: Ended) -> &'static str {
             assert_ne!(known, Known::HalfWritten);
             "abandoned"
         }
+        (_, Ended::Refused(52)) => "contradicted",
         (Some(_), Ended::Refused(number)) => panic!("refused {number}"),
         (None, _) => "not plain",
     }

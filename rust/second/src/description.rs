@@ -169,6 +169,11 @@ impl Mask {
         byte & self.fixed == self.ones
     }
 
+    /// A byte with the mask's fixed bits in place of its own.
+    pub fn obeying(&self, byte: u8) -> u8 {
+        byte & !self.fixed | self.ones
+    }
+
     /// The mask that a bits literal of eight elements gives; the rightmost is for bit 0.
     pub fn of(elements: &[u8]) -> Option<Mask> {
         if elements.len() != 8 {

@@ -2,7 +2,8 @@
 //!
 //! All state is the caller's: the record (for each register the last byte confirmed as written),
 //! the marks (one for each variable, 0 is clean), and the operation in hand. Every call takes any
-//! tables, tests its refusals from 20 up, and leaves everything unchanged when it refuses.
+//! tables, tests its refusals from 20 up, and leaves everything unchanged when it refuses; only
+//! refusal 52 ends the operation in hand.
 
 use std::fmt;
 
@@ -48,9 +49,16 @@ pub struct Access {
 pub enum Answer {
     Opened,
     Offer(Access),
-    Done { value: i64, accesses: usize },
+    Done {
+        value: i64,
+        accesses: usize,
+    },
     Abandoned,
     Refused(u8),
+    /// Refusal 52: the byte read contradicts the fixed bits of this register, and the operation has ended.
+    Contradicted {
+        register: usize,
+    },
 }
 
 impl fmt::Display for Answer {
@@ -73,6 +81,7 @@ impl fmt::Display for Answer {
             Answer::Done { value, accesses } => write!(f, "done {value} {accesses}"),
             Answer::Abandoned => write!(f, "abandoned"),
             Answer::Refused(number) => write!(f, "refused {number}"),
+            Answer::Contradicted { register } => write!(f, "refused 52 {register}"),
         }
     }
 }
@@ -159,7 +168,8 @@ pub fn begin_write(
     })())
 }
 
-/// Confirms the access on offer, with the byte read; for a write the byte is ignored.
+/// Confirms the access on offer, with the byte read; for a write the byte is ignored. A byte read that
+/// has not the fixed bits of its register ends the operation as if it were abandoned.
 pub fn confirm(
     tables: Tables,
     record: &mut [u8],
@@ -179,7 +189,12 @@ pub fn confirm(
                     step,
                     gathered,
                 } = reading;
-                let gathered = gathered | gather(bits, plan(bits)[step], byte);
+                let register = plan(bits)[step];
+                if !read_port(&description, register).mask.fits(byte) {
+                    *operation = Operation::Idle;
+                    return Ok(Answer::Contradicted { register });
+                }
+                let gathered = gathered | gather(bits, register, byte);
                 let step = step + 1;
                 if step < plan(bits).len() {
                     *operation = Operation::Reading {
@@ -354,7 +369,7 @@ fn none_in_hand(description: &Description, operation: &Operation) -> Result<(), 
 }
 
 /// The registers of a part in order of first mention, each once.
-fn plan(bits: &Bits) -> Vec<usize> {
+pub(crate) fn plan(bits: &Bits) -> Vec<usize> {
     let mut registers = Vec::new();
     for piece in &bits.pieces {
         if !registers.contains(&piece.register) {
@@ -399,9 +414,12 @@ fn byte_to_write(bits: &Bits, register: usize, port: &Port, value: u32, recorded
     byte
 }
 
+fn read_port(description: &Description, register: usize) -> Port {
+    description.registers[register].read.expect("sound tables")
+}
+
 fn read_access(description: &Description, bits: &Bits, step: usize) -> Access {
-    let register = plan(bits)[step];
-    let port = description.registers[register].read.expect("sound tables");
+    let port = read_port(description, plan(bits)[step]);
     Access {
         direction: Part::Read,
         parameter: port.parameter,
@@ -620,6 +638,61 @@ mod tests {
             }
             for value in [least, greatest] {
                 assert!(matches!(begin(value), Answer::Offer(_)), "{kind}: {value}");
+            }
+        }
+    }
+
+    /// A read of one register, over every mask element at a bit, both bytes: only a fixed bit that is
+    /// unlike the byte's is refused, and it names its register.
+    #[test]
+    fn contradictions() {
+        for bit in 0..8 {
+            for (element, contradicted) in [
+                ('0', [false, true]),
+                ('1', [true, false]),
+                ('*', [false; 2]),
+            ] {
+                let mut mask = "........".to_string();
+                mask.replace_range(7 - bit..8 - bit, &element.to_string());
+                let mut pieces = Vec::new();
+                if bit < 7 {
+                    pieces.push(format!("r[7..{}]", bit + 1));
+                }
+                if bit > 0 {
+                    pieces.push(format!("r[{}..0]", bit - 1));
+                }
+                let text = format!(
+                    "device d(b:bit[8] port@{{0..1}}){{register q=b@1,mask '********':bit[8];\
+                     register r=read b,mask '{mask}':bit[8];variable v={}:int(7);}}",
+                    pieces.join("#")
+                );
+                let Verdict::Accepted { description } = load(text.as_bytes()) else {
+                    panic!("{text}");
+                };
+                let words: [Vec<u32>; 3] = tables(&description).into();
+                for byte in 0..=255u8 {
+                    let (mut record, mut marks) = (vec![7, 7], vec![0]);
+                    let mut operation = Operation::Reading {
+                        variable: 0,
+                        step: 0,
+                        gathered: 0,
+                    };
+                    let answer =
+                        confirm(lent(&words), &mut record, &mut marks, &mut operation, byte);
+                    assert_eq!(
+                        answer == Answer::Contradicted { register: 1 },
+                        contradicted[usize::from(byte >> bit & 1)],
+                        "{mask}: {byte}"
+                    );
+                    assert!(matches!(
+                        answer,
+                        Answer::Contradicted { .. } | Answer::Done { .. }
+                    ));
+                    assert_eq!(
+                        (record, marks, operation),
+                        (vec![7, 7], vec![0], Operation::Idle)
+                    );
+                }
             }
         }
     }

@@ -190,7 +190,7 @@ fn damaged_tables_are_told_from_sound_ones() {
     assert!(told >= 6 && untold >= 6, "{told}, {untold} of 600");
 }
 
-/// Every line of a run is answered, and a refusal changes nothing.
+/// Every line of a run is answered, and a refusal changes nothing; 52 ends the operation, and that is all.
 #[test]
 fn refusals_leave_the_state() {
     let mut random = Random::new(7);
@@ -200,7 +200,11 @@ fn refusals_leave_the_state() {
         for call in run(&mut random, &text, 60) {
             let before = session.perform(&Call::State);
             let answer = session.perform(&call);
-            if answer.starts_with("refused") {
+            if answer.starts_with("refused 52 ") {
+                let (kept, _) = before.split_once("operation").unwrap();
+                let ended = format!("{kept}operation idle");
+                assert_eq!(session.perform(&Call::State), ended);
+            } else if answer.starts_with("refused") {
                 assert_eq!(session.perform(&Call::State), before);
             }
         }
@@ -225,6 +229,7 @@ fn runs_have_every_answer() {
         "26",
         "27",
         "28",
+        "52",
         "55",
     ] {
         let count = seen.get(kind).copied().unwrap_or(0);
@@ -237,6 +242,7 @@ fn runs_have_every_answer() {
 #[test]
 fn every_step_can_be_abandoned() {
     let mut random = Random::new(8);
+    let mut contradicted = 0;
     for _ in 0..60 {
         let text = valid(&mut random);
         let description = accepted(&text);
@@ -250,15 +256,19 @@ fn every_step_can_be_abandoned() {
                 Call::Open(_) => answer == "opened",
                 Call::Abandon => answer == "abandoned",
                 Call::Write(..) => answer.starts_with("offer write"),
-                Call::Confirm(_) => answer.starts_with("offer") || answer.starts_with("done"),
+                Call::Confirm(_) => ["offer", "done", "refused 52 "]
+                    .iter()
+                    .any(|a| answer.starts_with(a)),
                 Call::Read(_) => ["offer read", "refused 26", "refused 28"]
                     .iter()
                     .any(|a| answer.starts_with(a)),
                 _ => answer.starts_with("record"),
             };
             assert!(expected, "{call}: {answer}");
+            contradicted += usize::from(answer.starts_with("refused 52 "));
         }
     }
+    assert!(contradicted > 20, "{contradicted}");
 }
 
 /// Tables are sound exactly when their description, written down, is accepted and gives the same

@@ -128,6 +128,7 @@ fn every_answer_is_there() {
         "refused 26",
         "refused 27",
         "refused 28",
+        "refused 52",
         "refused 55",
     ] {
         let count = output

@@ -1,10 +1,10 @@
 //! Runs of calls over a text: good ones, refused ones, out of order, and abandoned at every step.
 
 use super::Random;
-use crate::description::{Description, Part, Variable, PARTS};
+use crate::description::{Bits, Description, Mask, Part, Variable, PARTS};
 use crate::load::{load, Verdict};
 use crate::replay::{Call, Session};
-use crate::station::Operation;
+use crate::station::{plan, Operation};
 
 /// So many calls over an accepted text.
 pub fn run(random: &mut Random, text: &[u8], length: usize) -> Vec<Call> {
@@ -16,9 +16,10 @@ pub fn run(random: &mut Random, text: &[u8], length: usize) -> Vec<Call> {
     };
     let mut calls = Vec::new();
     let (mut short_record, mut short_marks, mut stuck) = (false, false, false);
+    let mut opened = false;
     while calls.len() < length {
-        // What was lent short is mostly lent whole again soon, and an operation that the tables
-        // forbid is mostly let go.
+        // What was lent short is mostly lent whole again soon, an operation that the tables forbid
+        // is mostly let go, and a station that is not open is mostly opened.
         let call = if stuck && random.one_in(2) {
             match random.one_in(2) {
                 true => Call::Hold(Operation::Idle),
@@ -28,6 +29,8 @@ pub fn run(random: &mut Random, text: &[u8], length: usize) -> Vec<Call> {
             Call::LendRecord(None)
         } else if short_marks && random.one_in(2) {
             Call::LendMarks(None)
+        } else if !opened && !calls.is_empty() && random.one_in(3) {
+            open(random, &description)
         } else {
             next(random, &description, text, &session, calls.is_empty())
         };
@@ -36,7 +39,9 @@ pub fn run(random: &mut Random, text: &[u8], length: usize) -> Vec<Call> {
             Call::LendMarks(count) => short_marks = count.is_some(),
             _ => {}
         }
-        stuck = session.perform(&call) == "refused 22";
+        let answer = session.perform(&call);
+        stuck = answer == "refused 22";
+        opened |= answer == "opened";
         calls.push(call);
     }
     calls
@@ -55,7 +60,7 @@ fn next(
     if session.operation() != Operation::Idle && !random.one_in(6) {
         return match random.below(5) {
             0 => Call::Abandon,
-            _ => Call::Confirm(random.byte()),
+            _ => Call::Confirm(byte_for(random, description, session.operation())),
         };
     }
     match random.below(100) {
@@ -71,6 +76,33 @@ fn next(
         92..=95 => Call::Hold(held(random, description)),
         _ => Call::State,
     }
+}
+
+/// The mask of the register that an operation reads next, and how many registers it reads in all, if
+/// the tables allow it.
+fn next_read(description: &Description, operation: Operation) -> Option<(Mask, usize)> {
+    let Operation::Reading { variable, step, .. } = operation else {
+        return None;
+    };
+    let bits = description.variables.get(variable)?.read.as_ref()?;
+    let registers = plan(bits);
+    let port = description.registers[*registers.get(step)?].read?;
+    Some((port.mask, registers.len()))
+}
+
+/// A byte for a confirmation: for a read mostly one that obeys the mask, the more so the longer it
+/// is, so that long reads finish; else what a dead cable gives, or one fixed bit is wrong.
+fn byte_for(random: &mut Random, description: &Description, operation: Operation) -> u8 {
+    let byte = random.byte();
+    let Some((mask, length)) = next_read(description, operation) else {
+        return byte;
+    };
+    let obeying = mask.obeying(byte);
+    if !random.one_in(if length > 3 { 12 } else { 3 }) {
+        return obeying;
+    }
+    let wrong = mask.fixed & 1u8.rotate_left(random.below(8) as u32);
+    *random.pick(&[0x00, 0xFF, obeying ^ wrong, obeying ^ mask.fixed])
 }
 
 /// Mostly as many bytes as there are registers.
@@ -92,14 +124,28 @@ fn some_variable(random: &mut Random, description: &Description) -> usize {
     }
 }
 
-/// Now and then a half-written variable, if there is one.
+/// Now and then a half-written variable, or one that a byte can contradict, if there is one.
 fn read(random: &mut Random, description: &Description, session: &Session) -> Call {
-    let marked: Vec<usize> = (0..description.variables.len())
-        .filter(|variable| session.marks()[*variable] != 0)
-        .collect();
-    match marked.is_empty() || !random.one_in(6) {
+    let fixed = |variable: &usize| {
+        let pieces = description.variables[*variable].read.iter();
+        let mut registers = pieces
+            .flat_map(|bits| &bits.pieces)
+            .map(|piece| piece.register);
+        registers.any(|register| {
+            let port = description.registers[register].read;
+            port.is_some_and(|port| port.mask.fixed != 0)
+        })
+    };
+    let marked = |variable: &usize| session.marks()[*variable] != 0;
+    let all = 0..description.variables.len();
+    let some: Vec<usize> = match random.below(6) {
+        0 => all.filter(marked).collect(),
+        1..=3 => all.filter(fixed).collect(),
+        _ => Vec::new(),
+    };
+    match some.is_empty() {
         true => Call::Read(some_variable(random, description)),
-        false => Call::Read(*random.pick(&marked)),
+        false => Call::Read(*random.pick(&some)),
     }
 }
 
@@ -177,38 +223,30 @@ fn held(random: &mut Random, description: &Description) -> Operation {
     }
 }
 
-/// Each part of each variable: begun and abandoned after every number of confirmations, then done.
+/// Each part of each variable: begun and abandoned after every number of confirmations, then done;
+/// and read up to each register that a byte can contradict.
 pub fn every_step(random: &mut Random, text: &[u8]) -> Vec<Call> {
     let Verdict::Accepted { description } = load(text) else {
         return Vec::new();
     };
-    let bytes = |random: &mut Random| {
-        description
-            .registers
-            .iter()
-            .map(|_| random.byte())
-            .collect()
-    };
-    let mut calls = vec![Call::Open(bytes(random))];
+    let registers = description.registers.iter();
+    let mut calls = vec![Call::Open(registers.map(|_| random.byte()).collect())];
     for (index, variable) in description.variables.iter().enumerate() {
         let (least, greatest) = variable.bounds();
         for part in PARTS {
             let Some(bits) = variable.part(part) else {
                 continue;
             };
-            let mut registers: Vec<usize> =
-                bits.pieces.iter().map(|piece| piece.register).collect();
-            registers.sort_unstable();
-            registers.dedup();
-            for confirmations in 0..=registers.len() {
+            let masks = masks_read(&description, part, bits);
+            for confirmations in 0..=masks.len() {
                 let value = least + (random.number() % (greatest - least + 1) as u64) as i64;
                 calls.push(match part {
                     Part::Read => Call::Read(index),
                     Part::Write => Call::Write(index, value),
                 });
-                calls.extend((0..confirmations).map(|_| Call::Confirm(random.byte())));
+                calls.extend(fitting(random, &masks[..confirmations]));
                 calls.push(Call::State);
-                if confirmations < registers.len() {
+                if confirmations < masks.len() {
                     calls.push(Call::Abandon);
                     calls.push(Call::Read(index));
                     calls.push(Call::State);
@@ -218,7 +256,29 @@ pub fn every_step(random: &mut Random, text: &[u8]) -> Vec<Call> {
                     }
                 }
             }
+            for (step, mask) in masks.iter().enumerate() {
+                if mask.fixed != 0 {
+                    calls.push(Call::Read(index));
+                    calls.extend(fitting(random, &masks[..step]));
+                    calls.push(Call::Confirm(mask.obeying(random.byte()) ^ mask.fixed));
+                    calls.push(Call::State);
+                }
+            }
         }
     }
     calls
+}
+
+/// What the confirmations of a part must fit, one after the other: anything will do for a write.
+fn masks_read(description: &Description, part: Part, bits: &Bits) -> Vec<Mask> {
+    let mask = |register: usize| match (part, description.registers[register].read) {
+        (Part::Read, Some(port)) => port.mask,
+        _ => Mask::DOTS,
+    };
+    plan(bits).into_iter().map(mask).collect()
+}
+
+fn fitting(random: &mut Random, masks: &[Mask]) -> Vec<Call> {
+    let confirm = |mask: &Mask| Call::Confirm(mask.obeying(random.byte()));
+    masks.iter().map(confirm).collect()
 }

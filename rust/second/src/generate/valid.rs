@@ -1,7 +1,8 @@
 //! Valid descriptions of every size up to the limits.
 //!
 //! Variables are dealt out first, over registers whose bits are all free; the masks follow from
-//! what was taken, so that every dot bit is mapped and nothing else is.
+//! what was taken, so that every dot bit is mapped and nothing else is. In every other description
+//! a register with both parts has one mask for both.
 
 use std::collections::HashSet;
 
@@ -165,7 +166,8 @@ pub fn source(random: &mut Random, shape: Shape) -> Source {
     let device = names.fresh(random);
     let parameters = parameters(random, &mut names, shape);
     let registers = registers(random, &mut names, &parameters, shape);
-    let variables = variables(random, &mut names, &registers, shape);
+    let one_mask = random.one_in(2);
+    let variables = variables(random, &mut names, &registers, shape, one_mask);
 
     let mut mapped = [[0; REGISTERS]; 2];
     for variable in &variables {
@@ -180,7 +182,7 @@ pub fn source(random: &mut Random, shape: Shape) -> Source {
         .enumerate()
         .map(|(i, register)| {
             let dots = [mapped[0][i], mapped[1][i]];
-            write_register(random, register, dots, &parameters, shape.style)
+            write_register(random, register, dots, &parameters, shape.style, one_mask)
         })
         .collect();
     let written_variables: Vec<(usize, VariableSource)> = variables
@@ -369,6 +371,7 @@ fn variables(
     names: &mut Names,
     registers: &[Register],
     shape: Shape,
+    one_mask: bool,
 ) -> Vec<Variable> {
     let mut free: [Map; 2] = [[0; REGISTERS]; 2];
     for (i, register) in registers.iter().enumerate() {
@@ -398,6 +401,9 @@ fn variables(
         let Some((lists, parts)) = bit_lists(random, registers, &free, most as u32) else {
             continue;
         };
+        if one_mask && !alike_in_parts(registers, &parts) {
+            continue;
+        }
         for (map, part) in free.iter_mut().zip(&parts) {
             for piece in part.iter().flatten() {
                 map[piece.register] &= !bits(piece);
@@ -413,6 +419,18 @@ fn variables(
         });
     }
     variables
+}
+
+/// Whether the pieces of both parts take the same bits of each register that has both.
+fn alike_in_parts(registers: &[Register], parts: &[Option<Vec<Piece>>; 2]) -> bool {
+    let taken = |part: usize, register: usize| {
+        let pieces = parts[part].iter().flatten();
+        let own = pieces.filter(|piece| piece.register == register);
+        own.fold(0, |taken, piece| taken | bits(piece))
+    };
+    (0..registers.len())
+        .filter(|register| registers[*register].places.iter().all(Option::is_some))
+        .all(|register| taken(0, register) == taken(1, register))
 }
 
 type Lists = Vec<(Option<Part>, Vec<Piece>)>;
@@ -541,6 +559,7 @@ fn write_register(
     dots: [u8; 2],
     parameters: &[ParameterSource],
     style: Style,
+    one_mask: bool,
 ) -> RegisterSource {
     let mut port = |modifier, (parameter, offset): (usize, u32)| PortSource {
         modifier,
@@ -567,6 +586,10 @@ fn write_register(
         // No mask means eight dots.
     } else if alike && random.one_in(3) {
         masks.push((None, mask(random, common, register.told)));
+    } else if alike && one_mask && present == [true; 2] {
+        let mask = mask(random, common, register.told);
+        masks.extend(PARTS.map(|part| (Some(part), mask.clone())));
+        random.shuffle(&mut masks);
     } else {
         for (i, part) in PARTS.into_iter().enumerate() {
             if present[i] && (dots[i] != 0xFF || random.one_in(6)) {

@@ -4,6 +4,7 @@
 //! In a text of such a case `^` stands before the byte that the refusal names.
 
 mod boards;
+mod contradictions;
 mod grammar;
 mod limits;
 mod lines;
@@ -79,6 +80,7 @@ pub fn scripts() -> Vec<Script> {
     let mut scripts = scripts::scripts();
     scripts.extend(limits::scripts());
     scripts.extend(places::scripts());
+    scripts.extend(contradictions::scripts());
     scripts.extend(runs::scripts());
     scripts.extend(lines::scripts());
     scripts

@@ -359,15 +359,15 @@ pub fn scripts() -> Vec<Script> {
              confirm 0 -> done 165 8
              state -> record 10 11 10 11 10 11 10 11 marks 0 operation idle
              read 0 -> offer read 0 7 0x00
-             confirm 0xFF -> offer read 0 6 0x00
-             confirm 0xFE -> offer read 0 5 0x00
-             confirm 0xFF -> offer read 0 4 0x00
-             confirm 0xFE -> offer read 0 0 0x00
-             confirm 0xFE -> offer read 0 1 0x00
-             confirm 0xFF -> offer read 0 2 0x00
+             confirm 0xBB -> offer read 0 6 0x00
+             confirm 0x10 -> offer read 0 5 0x00
+             confirm 0xBB -> offer read 0 4 0x00
+             confirm 0x10 -> offer read 0 0 0x00
+             confirm 0xBA -> offer read 0 1 0x00
+             confirm 0x11 -> offer read 0 2 0x00
              state -> record 10 11 10 11 10 11 10 11 marks 0 operation read 0 6 164
-             confirm 0xFE -> offer read 0 3 0x00
-             confirm 0xFF -> done 165 8",
+             confirm 0xBA -> offer read 0 3 0x00
+             confirm 0x11 -> done 165 8",
         ),
         script(
             "pieces-that-come-back",

@@ -44,6 +44,18 @@ enum-told-2 c = search needs
 put-answer-requires-4 : tie.Need-put-answer-requires-4
 put-answer-requires-4 c κs = search needs
 
+enum-known-answer-4 : tie.Need-enum-known-answer-4
+enum-known-answer-4 c = search needs
+
+signed-requires-3 : tie.Need-signed-requires-3
+signed-requires-3 c κs = (rw (c .before .before .answer4 .given .1) at (c .before .before .before .before .pre)) .0
+
+signed-requires-4 : tie.Need-signed-requires-4
+signed-requires-4 c κs = (rw (c .before .before .before .answer4 .given .1) at (c .before .before .before .before .before .pre)) .1
+
+put-answer-requires-5 : tie.Need-put-answer-requires-5
+put-answer-requires-5 c κs = search needs
+
 same-length : tie.Need-same-length
 same-length c = search needs
 
@@ -74,6 +86,16 @@ same-length-5 c = search needs
 returns-5 : tie.Need-returns-5
 returns-5 c = rw (c .before .before .before .enum-told2 .given .1) (c .before .put-answer4 .ensures)
 
+same-length-6 : tie.Need-same-length-6
+same-length-6 c = search needs
+
+returns-6 : tie.Need-returns-6
+returns-6 c =
+    let told = c .before .before .before .before .before .before .answer4 .given .1 in
+    let small = rw told at (c .before .before .before .before .before .before .before .before .pre) in
+    rw told
+    (fields (now (c .before .before .before .before .before .before .before .before .args .words)) (pos 5) (c .before .put-answer5 .ensures) (said _ (small .0) (c .before .before .before .signed3 .ensures)) (said _ (small .1) (c .before .before .signed4 .ensures)) refl refl)
+
 pub tell-answer-spec : {M : Type 1} → statement M
 tell-answer-spec =
     tie.close
@@ -90,6 +112,10 @@ tell-answer-spec =
     put-answer-requires-3
     enum-told-2
     put-answer-requires-4
+    enum-known-answer-4
+    signed-requires-3
+    signed-requires-4
+    put-answer-requires-5
     same-length
     returns
     same-length-2
@@ -99,4 +125,6 @@ tell-answer-spec =
     same-length-4
     returns-4
     same-length-5
-    returns-5)
+    returns-5
+    same-length-6
+    returns-6)

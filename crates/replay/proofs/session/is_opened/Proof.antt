@@ -19,6 +19,9 @@ enum-told-4 c = search needs
 enum-told-5 : tie.Need-enum-told-5
 enum-told-5 c = search needs
 
+enum-told-6 : tie.Need-enum-told-6
+enum-told-6 c = search needs
+
 returns : tie.Need-returns
 unfolding isOpened
 returns c = rw (c .enum-told .given .1)
@@ -39,6 +42,10 @@ returns-5 : tie.Need-returns-5
 unfolding isOpened
 returns-5 c = rw (c .enum-told5 .given .1)
 
+returns-6 : tie.Need-returns-6
+unfolding isOpened
+returns-6 c = rw (c .enum-told6 .given .1)
+
 pub is-opened-spec : {M : Type 1} → statement M
 is-opened-spec =
     tie.close
@@ -48,8 +55,10 @@ is-opened-spec =
     enum-told-3
     enum-told-4
     enum-told-5
+    enum-told-6
     returns
     returns-2
     returns-3
     returns-4
-    returns-5)
+    returns-5
+    returns-6)
