@@ -72,10 +72,10 @@ fn replay_writes_the_stored_answers() {
 }
 
 #[test]
-fn pieces_writes_the_stored_answers() {
-    let program = env!("CARGO_BIN_EXE_pieces");
-    let written = run(program, &[], &stored("crates/pieces/stdin"));
-    assert!(written == (stored("crates/pieces/stdout"), true));
+fn arrivals_writes_the_stored_answers() {
+    let program = env!("CARGO_BIN_EXE_arrivals");
+    let written = run(program, &[], &stored("crates/arrivals/stdin"));
+    assert!(written == (stored("crates/arrivals/stdout"), true));
     assert_eq!(run(program, &[], b""), (Vec::new(), true));
     assert_eq!(run(program, &[], b"end\n"), (Vec::new(), false));
     let two = b"text 18\npiece 5\nab\nde\nend\n\ntext 3\nend";
@@ -97,6 +97,6 @@ fn generate_follows_its_seed() {
     assert!(!String::from_utf8(answers).unwrap().contains("unknown"));
     let (scripts, good) = run(program, &["pieces", "7", "20"], b"");
     assert!(good);
-    let (answers, good) = run(env!("CARGO_BIN_EXE_pieces"), &[], &scripts);
+    let (answers, good) = run(env!("CARGO_BIN_EXE_arrivals"), &[], &scripts);
     assert!(good && !String::from_utf8(answers).unwrap().contains("unknown"));
 }

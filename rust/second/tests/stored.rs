@@ -152,8 +152,8 @@ fn every_answer_is_there() {
 fn every_answer_to_a_piece_is_there() {
     let files = stored::files().unwrap();
     let file = |name: &str| &files.iter().find(|(path, _)| path == name).unwrap().1;
-    assert!(file("crates/pieces/stdin").len() < 1 << 20);
-    let output = String::from_utf8(file("crates/pieces/stdout").clone()).unwrap();
+    assert!(file("crates/arrivals/stdin").len() < 1 << 20);
+    let output = String::from_utf8(file("crates/arrivals/stdout").clone()).unwrap();
     let mut starts = vec!["more".to_string(), "lent".to_string()];
     starts.extend(["unknown".to_string(), "accepted".to_string()]);
     starts.extend((1..=16).map(|number| format!("refused {number} ")));

@@ -193,7 +193,7 @@ fn script_files() -> Result<Vec<StoredFile>, String> {
     ])
 }
 
-/// Input and output of the proved program `pieces`, framed scripts of pieces, and the scripts' names.
+/// Input and output of the proved program `arrivals`, framed scripts of pieces, and the scripts' names.
 fn piece_files() -> Result<Vec<StoredFile>, String> {
     let mut framed = Vec::new();
     let mut output = String::new();
@@ -209,8 +209,8 @@ fn piece_files() -> Result<Vec<StoredFile>, String> {
         names += &format!("{}\n", script.name);
     }
     Ok(vec![
-        ("crates/pieces/stdin".to_string(), framed),
-        ("crates/pieces/stdout".to_string(), output.into_bytes()),
+        ("crates/arrivals/stdin".to_string(), framed),
+        ("crates/arrivals/stdout".to_string(), output.into_bytes()),
         (format!("{HOME}/pieces.names"), names.into_bytes()),
     ])
 }
