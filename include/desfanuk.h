@@ -34,6 +34,9 @@ extern "C" {
 /* Bytes that a text has at most. */
 #define DESFANUK_TEXT_BYTES 8192
 
+/* Bytes of the store that is lent for a text in pieces: the longest text. */
+#define DESFANUK_STORE_BYTES 8192
+
 /* Registers that a description has at most: room enough for a record, and for a power-on list. */
 #define DESFANUK_REGISTERS 64
 
@@ -85,6 +88,9 @@ extern "C" {
 /* Word 0 of an accepted text; then the counts of its parameters, registers and variables. */
 #define DESFANUK_ACCEPTED 1
 
+/* Word 0 of the reply to a piece that was taken; then 0, 0, 0. A refusal is told as in a verdict. */
+#define DESFANUK_MORE 2
+
 /* ---- the words of an operation in hand */
 
 /* Word 0 of none; then 0, 0, 0. Four zeros are what there is before the first opening. */
@@ -131,7 +137,7 @@ extern "C" {
 
 /* ---- the refusals: docs/REFUSALS.md tells each in full, with its place and what it leaves */
 
-/* A lent table is shorter than its stated size. */
+/* A lent table or store is shorter than its stated size. */
 #define DESFANUK_REFUSED_SHORT_TABLE 1
 /* The text has more than 8,192 bytes. */
 #define DESFANUK_REFUSED_LONG_TEXT 2
@@ -202,6 +208,35 @@ uint32_t desfanuk_load(const uint8_t *text, size_t text_len,
                        uint32_t *registers, size_t registers_len,
                        uint32_t *variables, size_t variables_len,
                        uint64_t *answer, size_t answer_len);
+
+/*
+ * A description that arrives in pieces. Between the calls the caller keeps the text's store
+ * (DESFANUK_STORE_BYTES) and one word, how many bytes of it are taken: 0 before the first piece,
+ * then as the call before left it. However a text is cut, the end call answers as desfanuk_load
+ * does on the whole. include/pieces.c is a whole program.
+ *
+ * Takes a piece, of any length, and tells in `answer` (DESFANUK_VERDICT_WORDS) that more may come,
+ * or refusal 2 once the limit is passed, or 1, which changes nothing. Returns the refusal's number,
+ * or 0. The tables are lent for their lengths alone.
+ */
+uint32_t desfanuk_take_piece(const uint32_t *parameters, size_t parameters_len,
+                             const uint32_t *registers, size_t registers_len,
+                             const uint32_t *variables, size_t variables_len,
+                             uint8_t *store, size_t store_len,
+                             uint64_t *taken, size_t taken_len,
+                             const uint8_t *piece, size_t piece_len,
+                             uint64_t *answer, size_t answer_len);
+
+/*
+ * Ends the text and loads it, as desfanuk_load does. The next piece begins another text, unless
+ * the call was refused by 1. The text stays in the store for desfanuk_lookup until then.
+ */
+uint32_t desfanuk_end_pieces(const uint8_t *store, size_t store_len,
+                             uint64_t *taken, size_t taken_len,
+                             uint32_t *parameters, size_t parameters_len,
+                             uint32_t *registers, size_t registers_len,
+                             uint32_t *variables, size_t variables_len,
+                             uint64_t *answer, size_t answer_len);
 
 /* The index of the variable of this name in the text that was loaded, or -1 if there is none. */
 int64_t desfanuk_lookup(const uint8_t *text, size_t text_len,

@@ -3,3 +3,4 @@ pub mod SmallLaws
 pub mod Telling
 pub mod Meaning
 pub mod LoadingLaws
+pub mod ArrivingLaws

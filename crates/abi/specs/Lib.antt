@@ -1,3 +1,4 @@
 pub mod Words
 pub mod Told
 pub mod Loading
+pub mod Arriving

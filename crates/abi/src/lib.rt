@@ -1,5 +1,6 @@
-// The face for Rust and C: loading, and the station's calls, on numbers and slices alone. specs/Words.antt says how words stand for an operation and an
-// answer, specs/Loading.antt for a verdict. Each function takes its words apart, calls, and puts the answer together.
+// The face for Rust and C: loading, and the station's calls, on numbers and slices alone. specs/Words.antt says how
+// words stand for an operation and an answer, specs/Loading.antt for a verdict, specs/Arriving.antt for the reply to a
+// piece. Each function takes its words apart, calls, and puts the answer together.
 //   held       the record: for each register the byte last confirmed as written, at first the power-on byte
 //   marks      for each variable 0, or 1 where an abandoned write left it half-written
 //   operation  four words: the operation in hand
@@ -16,7 +17,10 @@ ghost use Rattle.abi.specs.Told.{Tells};
 ghost use Rattle.rules.specs.Names.{variableNamed};
 ghost use Rattle.loader.specs.Load.{lentAs, loadOf};
 ghost use Rattle.abi.specs.Loading.{TellsLoaded, foundWord};
+ghost use Rattle.pieces.specs.Pieces.{heldAs, pieceOf, endOf};
+ghost use Rattle.abi.specs.Arriving.{takenOf, TellsTook, TellsClosed};
 
+pub mod arriving;
 pub mod loading;
 pub mod words;
 
@@ -46,6 +50,57 @@ pub extern "C" fn desfanuk_lookup(text: &[u8], variables: &[u32], name: &[u8]) -
     ensures { λ r. ⌜ r ≡ foundWord (variableNamed (now (text .entry)) (now (variables .entry)) (now (name .entry))) ⌝ }
 {
     loading::found_word(loader::lookup(text, variables, name))
+}
+
+// ---- a text in pieces
+
+// Takes a piece of a text into `store`, behind the bytes that the word of `taken` counts. Four words of `answer` take
+// the reply.
+#[no_mangle]
+pub extern "C" fn desfanuk_take_piece(
+    parameters: &[u32],
+    registers: &[u32],
+    variables: &[u32],
+    store: &mut [u8],
+    taken: &mut [u64],
+    piece: &[u8],
+    answer: &mut [u64],
+) -> u32
+    ensures { λ r. ⌜ TellsTook
+        (pieceOf (lentAs (now (parameters .entry)) (now (registers .entry)) (now (variables .entry)))
+        (heldAs (now (store .entry)) (takenOf (now (taken .entry)))) (now (piece .entry)))
+        (now (taken .entry)) (now (answer .entry))
+        (now (store .exit)) (now (taken .exit)) (now (answer .exit)) r ⌝ }
+{
+    let so_far = arriving::taken_of(taken);
+    let took = pieces::take_piece(store, so_far, piece, parameters, registers, variables);
+    let reply = took.reply;
+    arriving::keep(taken, took.taken);
+    arriving::tell_reply(reply, answer)
+}
+
+// Ends a text in pieces and loads it. Four words of `answer` take the verdict.
+#[no_mangle]
+pub extern "C" fn desfanuk_end_pieces(
+    store: &[u8],
+    taken: &mut [u64],
+    parameters: &mut [u32],
+    registers: &mut [u32],
+    variables: &mut [u32],
+    answer: &mut [u64],
+) -> u32
+    ensures { λ r. ⌜ TellsClosed
+        (endOf (lentAs (now (parameters .entry)) (now (registers .entry)) (now (variables .entry)))
+        (heldAs (now (store .entry)) (takenOf (now (taken .entry)))))
+        (now (taken .entry)) (now (answer .entry))
+        (now (parameters .exit)) (now (registers .exit)) (now (variables .exit))
+        (now (taken .exit)) (now (answer .exit)) r ⌝ }
+{
+    let so_far = arriving::taken_of(taken);
+    let ended = pieces::end_pieces(store, so_far, parameters, registers, variables);
+    let verdict = ended.verdict;
+    arriving::keep(taken, ended.taken);
+    loading::tell_verdict(verdict, answer)
 }
 
 // ---- the station

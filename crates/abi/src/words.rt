@@ -71,7 +71,7 @@ pub fn operation_of(words: &[u64]) -> Operation
 }
 
 // Stores a word, if the slice has that place.
-fn put(words: &mut [u64], at: usize, word: u64)
+pub fn put(words: &mut [u64], at: usize, word: u64)
     ensures { λ _. ⌜ now (words .exit) ≡ set (now (words .entry)) at word ⌝ }
 {
     if at < words.len() {

@@ -13,7 +13,7 @@ use Rattle.script.specs.Numbers.{numberOf}
 use Rattle.script.specs.declared.numbers.Number.{Number}
 use Rattle.script.specs.declared.numbers.Number.the-variants as number
 use Rattle.script.proofs.WordLaws.{line-on}
-use Rattle.frames.specs.Frames.{headed, endsAt, enclosed, framed, lineAt, frameAt}
+use Rattle.frames.specs.Frames.{headed, endsAt, enclosed, framed, lineAt, headedAt, frameAt}
 use Rattle.frames.specs.declared.Frame.{Frame}
 use Rattle.frames.specs.declared.Frame.the-variants.{Text, Nothing}
 
@@ -38,21 +38,27 @@ unfolding framed
 framed-within input at start (number.Is n) h inside = enclosed-within input at start n h inside
 framed-within input at start number.Nothing h inside = tt
 
-pub frame-within : (input : List ℕ) (at : ℕ) → Within input at (frameAt input at)
-unfolding frameAt
-frame-within input at = go (leb (length input) at) refl
+frame-within : (head input : List ℕ) (at : ℕ) → Within input at (headedAt head input at)
+unfolding headedAt
+frame-within head input at = go (leb (length input) at) refl
   where
     go :
         (over : Bool) → leb (length input) at ≡ over
-        → Within input at (elim over [ true ↦ Nothing | false ↦ framed input (lineEnd input at + 1) (headed (lineAt input at)) ])
+        → Within input at (elim over [ true ↦ Nothing | false ↦ framed input (lineEnd input at + 1) (headed head (lineAt input at)) ])
     go true e = tt
-    go false e = framed-within input at (lineEnd input at + 1) (headed (lineAt input at)) (omega (arith, line-on input at)) (leb-false (length input) at e)
+    go false e = framed-within input at (lineEnd input at + 1) (headed head (lineAt input at)) (omega (arith, line-on input at)) (leb-false (length input) at e)
 
--- what a caller that found a text may count on
+-- what a caller that found one may count on
+pub headed-within :
+    (head input : List ℕ) (at : ℕ) (found : Frame) {start end next : ℕ} → found ≡ headedAt head input at → found ≡ Text start end next
+    → (start ≤ end) × (end ≤ length input) × (at < next) × (at < length input)
+headed-within head input at found e is = subst (Within input at) (sym e ∙ is) (frame-within head input at)
+
 pub text-within :
     (input : List ℕ) (at : ℕ) (found : Frame) {start end next : ℕ} → found ≡ frameAt input at → found ≡ Text start end next
     → (start ≤ end) × (end ≤ length input) × (at < next) × (at < length input)
-text-within input at found e is = subst (Within input at) (sym e ∙ is) (frame-within input at)
+unfolding frameAt
+text-within input at found e is = headed-within (bytes "text") input at found e is
 
 -- less of the input is to come behind it
 pub text-nearer :
@@ -77,16 +83,16 @@ module _ (input : List ℕ) (start n : ℕ) where
 
 -- what a line says, by its words as the code takes them
 module _
-    (line tail more third first : List ℕ) (is-text : Bool)
-    (e₁ : tail ≡ restOf line) (e₂ : more ≡ restOf tail) (e₃ : third ≡ wordOf more) (e₄ : first ≡ wordOf line) (e₅ : is-text ≡ same first (bytes "text"))
+    (head line tail more third first : List ℕ) (is-head : Bool)
+    (e₁ : tail ≡ restOf line) (e₂ : more ≡ restOf tail) (e₃ : third ≡ wordOf more) (e₄ : first ≡ wordOf line) (e₅ : is-head ≡ same first head)
   where
-    test-is : (is-text && eqb (length third) 0) ≡ (same (wordOf line) (bytes "text") && eqb (length (wordOf (restOf (restOf line)))) 0)
+    test-is : (is-head && eqb (length third) 0) ≡ (same (wordOf line) head && eqb (length (wordOf (restOf (restOf line)))) 0)
     test-is = rw (e₅, e₄, e₃, e₂, e₁)
 
-    pub headed-so : (second : List ℕ) (n : Number) → second ≡ wordOf tail → n ≡ numberOf second → (is-text && eqb (length third) 0) ≡ true → n ≡ headed line
+    pub headed-so : (second : List ℕ) (n : Number) → second ≡ wordOf tail → n ≡ numberOf second → (is-head && eqb (length third) 0) ≡ true → n ≡ headed head line
     unfolding headed
     headed-so second n e₆ e₇ passed = rw (sym test-is ∙ passed) (e₇ ∙ ap numberOf (e₆ ∙ ap wordOf e₁))
 
-    pub headed-not : (is-text && eqb (length third) 0) ≡ false → number.Nothing ≡ headed line
+    pub headed-not : (is-head && eqb (length third) 0) ≡ false → number.Nothing ≡ headed head line
     unfolding headed
     headed-not failed = rw (sym test-is ∙ failed)

@@ -3,4 +3,3 @@ pub mod FieldLaws
 pub mod CallLaws
 pub mod CallExamples
 pub mod SessionLaws
-pub mod LineLaws

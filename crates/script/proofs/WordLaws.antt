@@ -18,6 +18,12 @@ line-on input at = run-after (testOf Line) input at
 pub line-inside : (input : List ℕ) (at : ℕ) → at ≤ length input → lineEnd input at ≤ length input
 line-inside input at h = run-within (testOf Line) input at h
 
+-- a line that begins inside its input lies inside it
+pub line-within : (input : List ℕ) (at end : ℕ) → end ≡ lineEnd input at → at < length input → (at ≤ end) × (end ≤ length input)
+line-within input at end is-end inside =
+    let starts : at ≤ length input = omega arith in
+    (rw is-end (line-on input at), rw is-end (line-inside input at starts))
+
 -- the first word of a line lies inside it
 pub word-whole : (line : List ℕ) → wordStart line ≤ wordEnd line
 word-whole line = run-after (testOf Word) line (wordStart line)

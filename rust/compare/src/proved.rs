@@ -2,7 +2,7 @@
 //! `desfanuk` makes of them is tested apart from it.
 
 use desfanuk::raw;
-use second::{Access, Answer, Loaded, Operation, Part, Tables};
+use second::{Access, Answer, Loaded, Operation, Part, Tables, Taken};
 
 pub use desfanuk::raw::{ANSWER_WORDS, OPERATION_WORDS, VERDICT_WORDS};
 
@@ -24,7 +24,36 @@ pub fn load(
 ) -> Loaded {
     let mut words = [u64::MAX; VERDICT_WORDS];
     let number = raw::load(text, parameters, registers, variables, &mut words);
-    let loaded = verdict_of(&words);
+    told_verdict(&words, number)
+}
+
+/// Takes a piece of a text.
+pub fn take_piece(tables: raw::Tables, store: &mut [u8], taken: &mut [u64], piece: &[u8]) -> Taken {
+    let mut words = [u64::MAX; VERDICT_WORDS];
+    let number = raw::take_piece(tables, store, taken, piece, &mut words);
+    if words == [2, 0, 0, 0] {
+        assert_eq!(number, 0, "the number returned");
+        return Taken::More;
+    }
+    Taken::Verdict(told_verdict(&words, number))
+}
+
+/// Ends a text in pieces.
+pub fn end_pieces(
+    store: &[u8],
+    taken: &mut [u64],
+    parameters: &mut [u32],
+    registers: &mut [u32],
+    variables: &mut [u32],
+) -> Loaded {
+    let mut words = [u64::MAX; VERDICT_WORDS];
+    let number = raw::end_pieces(store, taken, parameters, registers, variables, &mut words);
+    told_verdict(&words, number)
+}
+
+/// The verdict that words stand for, and the number that was returned with it.
+fn told_verdict(words: &[u64; VERDICT_WORDS], number: u32) -> Loaded {
+    let loaded = verdict_of(words);
     let refusal = match loaded {
         Loaded::Accepted { .. } => 0,
         Loaded::Refused { number, .. } => u32::from(number),

@@ -37,7 +37,7 @@ pub struct Refused {
 }
 
 impl Verdict {
-    fn of(words: [u64; VERDICT_WORDS]) -> Verdict {
+    pub(crate) fn of(words: [u64; VERDICT_WORDS]) -> Verdict {
         let number = |word: u64| usize::try_from(word).expect("a number of a verdict");
         match words {
             [0, refusal, place, 0] => Verdict::Refused(Refused {
@@ -113,6 +113,20 @@ impl Tables {
         Verdict::of(words)
     }
 
+    /// Ends a text in pieces, and loads it as `load` does.
+    pub(crate) fn end(&mut self, store: &[u8], taken: &mut [u64]) -> Verdict {
+        let mut words = [0; VERDICT_WORDS];
+        raw::end_pieces(
+            store,
+            taken,
+            &mut self.parameters,
+            &mut self.registers,
+            &mut self.variables,
+            &mut words,
+        );
+        Verdict::of(words)
+    }
+
     /// The words, lent to the calls.
     pub fn words(&self) -> raw::Tables<'_> {
         raw::Tables {
@@ -156,6 +170,11 @@ impl Description {
             Verdict::Accepted { .. } => Ok(Description { text, tables }),
             Verdict::Refused(refused) => Err(refused),
         }
+    }
+
+    /// The description of a text that these tables were loaded with.
+    pub(crate) fn of(text: Vec<u8>, tables: Tables) -> Description {
+        Description { text, tables }
     }
 
     pub fn text(&self) -> &[u8] {

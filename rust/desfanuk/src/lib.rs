@@ -41,8 +41,11 @@
 //! Where a function performs the accesses, [`Station::read`] and [`Station::write`] do the
 //! confirming, and abandon the operation when it fails: see [`Ports`]. `examples/score.rs` is a
 //! whole program.
+//!
+//! A description that arrives in pieces, from a file or over a line, goes into [`Pieces`].
 
 mod description;
+mod pieces;
 mod refusal;
 mod station;
 mod through;
@@ -50,6 +53,7 @@ mod through;
 pub mod raw;
 
 pub use description::{Description, Refused, Tables, Verdict};
+pub use pieces::Pieces;
 pub use refusal::Refusal;
 pub use station::{Access, Answer, Direction, Operation, Station};
 pub use through::{Contradiction, Done, Outside, Ports, Stopped};

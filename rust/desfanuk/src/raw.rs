@@ -11,6 +11,9 @@ pub const REGISTERS_WORDS: usize = 961;
 /// Words of the table of variables: the count, and 128 entries of 59.
 pub const VARIABLES_WORDS: usize = 7553;
 
+/// Bytes of the store of a text in pieces: the longest text.
+pub const STORE_BYTES: usize = 8192;
+
 /// Words of a verdict: 0, a refusal's number and place; or 1 and the three counts.
 pub const VERDICT_WORDS: usize = 4;
 
@@ -97,6 +100,28 @@ calls! {
     /// go. Gives the refusal's number, or 0.
     pub load: fn desfanuk_load(
         text: &[u8],
+        parameters: &mut [u32],
+        registers: &mut [u32],
+        variables: &mut [u32],
+        answer: &mut [u64],
+    ) -> u32;
+
+    /// Takes a piece of a text into `store`, behind the bytes that the word of `taken` counts; the
+    /// answer is told in the words of `answer`. Gives the refusal's number, or 0.
+    pub take_piece: fn desfanuk_take_piece(
+        parameters: &[u32],
+        registers: &[u32],
+        variables: &[u32],
+        store: &mut [u8],
+        taken: &mut [u64],
+        piece: &[u8],
+        answer: &mut [u64],
+    ) -> u32;
+
+    /// Ends a text in pieces and loads it, as `load` does.
+    pub end_pieces: fn desfanuk_end_pieces(
+        store: &[u8],
+        taken: &mut [u64],
         parameters: &mut [u32],
         registers: &mut [u32],
         variables: &mut [u32],

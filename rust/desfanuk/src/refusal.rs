@@ -30,7 +30,7 @@ macro_rules! refusals {
 }
 
 refusals! {
-    ShortTable = 1, "a lent table is shorter than its stated size";
+    ShortTable = 1, "a lent table or store is shorter than its stated size";
     LongText = 2, "the text has more than 8,192 bytes";
     BadToken = 3, "no token begins here; a block comment or a bits literal is not closed; a bits \
         literal is empty or holds another character than `0 1 * .`; a number is over \

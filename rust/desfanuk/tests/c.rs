@@ -1,10 +1,10 @@
-//! include/desfanuk.h and the example in C: both compile without a warning, the header's numbers
-//! are this crate's, and the example tells the same story as the one in Rust. A compiler is there,
+//! include/desfanuk.h and the examples in C: they compile without a warning, the header's numbers
+//! are this crate's, and each example tells the same story as the one in Rust. A compiler is there,
 //! since Rust links by it.
 
 use std::env;
 use std::ffi::OsString;
-use std::fs;
+use std::fs::{self, File};
 use std::path::{Path, PathBuf};
 use std::process::Command;
 
@@ -13,6 +13,10 @@ use desfanuk::{raw, Refusal};
 #[allow(dead_code)]
 #[path = "../examples/score.rs"]
 mod score;
+
+#[allow(dead_code)]
+#[path = "../examples/pieces.rs"]
+mod pieces;
 
 const WARNINGS: [&str; 4] = ["-Wall", "-Wextra", "-Werror", "-pedantic"];
 
@@ -44,6 +48,17 @@ fn scratch(name: &str) -> PathBuf {
     Path::new(env!("CARGO_TARGET_TMPDIR")).join(name)
 }
 
+/// The example of this name in C, compiled.
+fn example(name: &str) -> PathBuf {
+    let program = scratch(name);
+    let source = of_repository(&format!("include/{name}.c"));
+    compile(
+        &["-std=c99"],
+        &[&source, &archive(), Path::new("-o"), &program],
+    );
+    program
+}
+
 /// The name of a refusal's macro.
 fn macro_of(refusal: Refusal) -> String {
     let mut name = "DESFANUK_REFUSED".to_string();
@@ -65,6 +80,7 @@ fn the_numbers_of_the_header_are_those_of_the_crate() {
         ),
         ("DESFANUK_REGISTERS_WORDS".to_string(), raw::REGISTERS_WORDS),
         ("DESFANUK_VARIABLES_WORDS".to_string(), raw::VARIABLES_WORDS),
+        ("DESFANUK_STORE_BYTES".to_string(), raw::STORE_BYTES),
         ("DESFANUK_VERDICT_WORDS".to_string(), raw::VERDICT_WORDS),
         ("DESFANUK_OPERATION_WORDS".to_string(), raw::OPERATION_WORDS),
         ("DESFANUK_ANSWER_WORDS".to_string(), raw::ANSWER_WORDS),
@@ -105,17 +121,36 @@ fn the_example_tells_the_same_story_in_c_and_in_rust() {
     let text = fs::read(&board).expect("the board");
     assert_eq!(score::story(text).expect("a story"), want);
 
-    let program = scratch("score");
-    let source = of_repository("include/score.c");
-    compile(
-        &["-std=c99"],
-        &[&source, &archive(), Path::new("-o"), &program],
-    );
     let told = Command::new(of_repository("run"))
-        .arg(&program)
+        .arg(example("score"))
         .arg(&board)
         .output()
         .expect("it runs");
     assert!(told.status.success());
     assert_eq!(String::from_utf8_lossy(&told.stdout), want);
+}
+
+/// A text in three pieces and in one; and a text that its second piece, of one byte, makes too long.
+#[test]
+fn pieces_are_answered_alike_in_c_and_in_rust() {
+    let program = example("pieces");
+    let path = scratch("pieces.devil");
+    let a = "device d(base:bit[8] port){register r=base:bit[8];variable v=r:int(8);}";
+    let long = " ".repeat(8193);
+    let more = "30 bytes: more\n30 bytes: more\n11 bytes: more\nend: accepted 1 1 1\n";
+    let whole = "71 bytes: more\nend: accepted 1 1 1\n";
+    let passed = "8192 bytes: more\n1 bytes: refused 2 0\nend: refused 2 0\n";
+    for (text, bytes, want) in [(a, 30, more), (a, 8192, whole), (&long, 8192, passed)] {
+        fs::write(&path, text).expect("written");
+        let told = pieces::story(text.as_bytes(), bytes);
+        assert_eq!(told.expect("it is read"), want);
+        let told = Command::new(of_repository("run"))
+            .arg(&program)
+            .arg(bytes.to_string())
+            .stdin(File::open(&path).expect("the text"))
+            .output()
+            .expect("it runs");
+        assert!(told.status.success());
+        assert_eq!(String::from_utf8_lossy(&told.stdout), want);
+    }
 }

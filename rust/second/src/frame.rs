@@ -1,4 +1,5 @@
 //! Framed texts: a line `text N`, then N bytes, then a newline. The line's words and its number are those of scripts.
+//! The pieces of a text are framed alike, behind a line `piece N`.
 
 use std::fmt;
 
@@ -19,12 +20,24 @@ impl std::error::Error for BadFrame {}
 /// The text framed at `at`, and the place after its frame. The newline after the last text may be
 /// left out.
 pub fn read(input: &[u8], at: usize) -> Result<(&[u8], usize), BadFrame> {
+    read_headed("text", input, at)
+}
+
+/// The bytes framed at `at`, behind a line of this word and their number.
+pub fn read_headed<'i>(
+    head: &str,
+    input: &'i [u8],
+    at: usize,
+) -> Result<(&'i [u8], usize), BadFrame> {
     let frame = || -> Option<(&[u8], usize)> {
         let rest = input.get(at..)?;
         let line = rest.iter().position(|b| *b == b'\n')?;
-        let [b"text", length] = fields(&rest[..line]).collect::<Vec<_>>()[..] else {
+        let [word, length] = fields(&rest[..line]).collect::<Vec<_>>()[..] else {
             return None;
         };
+        if word != head.as_bytes() {
+            return None;
+        }
         let start = at + line + 1;
         let end = start.checked_add(natural(length)?)?;
         let text = input.get(start..end)?;
@@ -51,8 +64,13 @@ pub fn read_all(input: &[u8]) -> Result<Vec<&[u8]>, BadFrame> {
 
 /// Appends a text in its frame.
 pub fn write(text: &[u8], to: &mut Vec<u8>) {
-    to.extend_from_slice(format!("text {}\n", text.len()).as_bytes());
-    to.extend_from_slice(text);
+    write_headed("text", text, to);
+}
+
+/// Appends bytes behind a line of this word and their number.
+pub fn write_headed(head: &str, bytes: &[u8], to: &mut Vec<u8>) {
+    to.extend_from_slice(format!("{head} {}\n", bytes.len()).as_bytes());
+    to.extend_from_slice(bytes);
     to.push(b'\n');
 }
 

@@ -6,6 +6,7 @@ use crate::replay::Session;
 
 mod broken;
 mod lines;
+mod pieces;
 mod random;
 mod runs;
 mod source;
@@ -15,6 +16,7 @@ mod written;
 
 pub use broken::{broken, damaged, random_bytes};
 pub use lines::damaged_line;
+pub use pieces::pieces;
 pub use random::Random;
 pub use runs::{every_step, run};
 pub use source::{spell, Source, Style};

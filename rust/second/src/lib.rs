@@ -8,6 +8,7 @@ mod description;
 pub mod frame;
 pub mod generate;
 mod load;
+pub mod pieces;
 pub mod replay;
 mod rules;
 mod sound;
@@ -22,6 +23,7 @@ pub use description::{
     Variable, PARTS,
 };
 pub use load::{load, outline, Counts, Outline, Refusal, Verdict, TEXT_BYTES};
+pub use pieces::{Pieces, Taken};
 pub use sound::sound;
 pub use station::{
     abandon, begin_read, begin_write, confirm, open, Access, Answer, Operation, Tables,

@@ -236,6 +236,19 @@ impl fmt::Display for Loaded {
     }
 }
 
+/// The lent tables over their stated sizes, unless one is shorter (refusal 1).
+pub(crate) fn stated<'t>(
+    parameters: &'t mut [u32],
+    registers: &'t mut [u32],
+    variables: &'t mut [u32],
+) -> Option<[&'t mut [u32]; 3]> {
+    Some([
+        parameters.get_mut(..PARAMETER_WORDS)?,
+        registers.get_mut(..REGISTER_WORDS)?,
+        variables.get_mut(..VARIABLE_WORDS)?,
+    ])
+}
+
 /// Loads a text into lent tables. Refusals 1 and 2 touch nothing; 3 to 16 leave the tables zero
 /// over their stated sizes, and nothing past those sizes is ever touched.
 pub fn load_into(
@@ -245,11 +258,7 @@ pub fn load_into(
     variables: &mut [u32],
 ) -> Loaded {
     let refused = |number, place| Loaded::Refused { number, place };
-    let (Some(parameters), Some(registers), Some(variables)) = (
-        parameters.get_mut(..PARAMETER_WORDS),
-        registers.get_mut(..REGISTER_WORDS),
-        variables.get_mut(..VARIABLE_WORDS),
-    ) else {
+    let Some([parameters, registers, variables]) = stated(parameters, registers, variables) else {
         return refused(1, 0);
     };
     if text.len() > TEXT_BYTES {

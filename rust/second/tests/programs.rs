@@ -72,6 +72,18 @@ fn replay_writes_the_stored_answers() {
 }
 
 #[test]
+fn arrivals_writes_the_stored_answers() {
+    let program = env!("CARGO_BIN_EXE_arrivals");
+    let written = run(program, &[], &stored("crates/arrivals/stdin"));
+    assert!(written == (stored("crates/arrivals/stdout"), true));
+    assert_eq!(run(program, &[], b""), (Vec::new(), true));
+    assert_eq!(run(program, &[], b"end\n"), (Vec::new(), false));
+    let two = b"text 18\npiece 5\nab\nde\nend\n\ntext 3\nend";
+    let written = b"more\nrefused 4 0\nrefused 4 0\n".to_vec();
+    assert_eq!(run(program, &[], two), (written, true));
+}
+
+#[test]
 fn generate_follows_its_seed() {
     let program = env!("CARGO_BIN_EXE_generate");
     let texts = run(program, &["texts", "7", "20"], b"");
@@ -83,4 +95,8 @@ fn generate_follows_its_seed() {
     let (answers, good) = run(env!("CARGO_BIN_EXE_replay"), &[], &script);
     assert!(good && answers.starts_with(b"accepted "));
     assert!(!String::from_utf8(answers).unwrap().contains("unknown"));
+    let (scripts, good) = run(program, &["pieces", "7", "20"], b"");
+    assert!(good);
+    let (answers, good) = run(env!("CARGO_BIN_EXE_arrivals"), &[], &scripts);
+    assert!(good && !String::from_utf8(answers).unwrap().contains("unknown"));
 }

@@ -3,7 +3,7 @@
 use std::fs;
 use std::path::Path;
 
-use second::{load, outline, replay, scan, stored, Outline, Token, RESERVED};
+use second::{load, outline, pieces, replay, scan, stored, Outline, Token, RESERVED};
 
 #[test]
 fn the_papers_answers() {
@@ -24,6 +24,14 @@ fn the_scripts_answers() {
         if let Some(answers) = script.expected {
             assert_eq!(written[1..], answers, "{}", script.name);
         }
+    }
+}
+
+#[test]
+fn the_answers_to_pieces() {
+    for script in stored::piece_scripts() {
+        let written = pieces::script::run(&script.lines);
+        assert_eq!(written, script.expected, "{}", script.name);
     }
 }
 
@@ -139,10 +147,30 @@ fn every_answer_is_there() {
     }
 }
 
+/// So does every answer to a piece, among scripts that fit into the proved program's space.
+#[test]
+fn every_answer_to_a_piece_is_there() {
+    let files = stored::files().unwrap();
+    let file = |name: &str| &files.iter().find(|(path, _)| path == name).unwrap().1;
+    assert!(file("crates/arrivals/stdin").len() < 1 << 20);
+    let output = String::from_utf8(file("crates/arrivals/stdout").clone()).unwrap();
+    let mut starts = vec!["more".to_string(), "lent".to_string()];
+    starts.extend(["unknown".to_string(), "accepted".to_string()]);
+    starts.extend((1..=16).map(|number| format!("refused {number} ")));
+    for start in starts {
+        assert!(
+            output.lines().any(|line| line.starts_with(&start)),
+            "{start}"
+        );
+    }
+}
+
 #[test]
 fn names_are_told_apart() {
     let mut names: Vec<String> = stored::texts().into_iter().map(|case| case.name).collect();
     names.extend(stored::scripts().into_iter().map(|script| script.name));
+    let scripts = stored::piece_scripts().into_iter();
+    names.extend(scripts.map(|script| script.name));
     let count = names.len();
     names.sort();
     names.dedup();

@@ -16,9 +16,6 @@ word-requires c κs = search needs
 word-requires-2 : tie.Need-word-requires-2
 word-requires-2 c κs = search needs
 
-slice-aggregate-is : tie.Need-slice-aggregate-is
-slice-aggregate-is c = search needs
-
 is-requires : tie.Need-is-requires
 is-requires c κs = search needs
 
@@ -29,10 +26,10 @@ number-of-requires : tie.Need-number-of-requires
 number-of-requires c κs = search needs
 
 returns : tie.Need-returns
-returns c = headed-so _ _ _ _ _ _ (c .before .before .before .before .before .before .before .before .rest .ensures) (c .before .before .before .before .before .before .before .rest2 .ensures) (c .before .before .before .before .before .before .word .ensures) (c .before .before .before .before .before .word2 .ensures) (c .before .before .before .is .ensures) _ _ (c .before .word3 .ensures) (c .number-of .ensures) (c .before .before .if1 .taken)
+returns c = headed-so _ _ _ _ _ _ _ (c .before .before .before .before .before .before .before .rest .ensures) (c .before .before .before .before .before .before .rest2 .ensures) (c .before .before .before .before .before .word .ensures) (c .before .before .before .before .word2 .ensures) (c .before .before .before .is .ensures) _ _ (c .before .word3 .ensures) (c .number-of .ensures) (c .before .before .if1 .taken)
 
 returns-2 : tie.Need-returns-2
-returns-2 c = headed-not _ _ _ _ _ _ (c .before .before .before .before .before .before .rest .ensures) (c .before .before .before .before .before .rest2 .ensures) (c .before .before .before .before .word .ensures) (c .before .before .before .word2 .ensures) (c .before .is .ensures) (c .if1 .left)
+returns-2 c = headed-not _ _ _ _ _ _ _ (c .before .before .before .before .before .rest .ensures) (c .before .before .before .before .rest2 .ensures) (c .before .before .before .word .ensures) (c .before .before .word2 .ensures) (c .before .is .ensures) (c .if1 .left)
 
 pub length-of-spec : {M : Type 1} → statement M
 length-of-spec =
@@ -42,7 +39,6 @@ length-of-spec =
     rest-requires-2
     word-requires
     word-requires-2
-    slice-aggregate-is
     is-requires
     word-requires-3
     number-of-requires

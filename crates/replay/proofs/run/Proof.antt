@@ -5,7 +5,7 @@ use mathlib.Core.Path.{_≡_, refl}
 use Prim.Native.Nat.{_-_}
 use lib.ListN.{length}
 use Rattle.frames.proofs.FrameLaws.{text-within}
-use Rattle.replay.proofs.LineLaws.{line-within}
+use Rattle.script.proofs.WordLaws.{line-within}
 use Rattle.replay.proofs.run.Statement.{statement}
 use Rattle.replay.proofs.run.Tie as tie
 

@@ -2,12 +2,13 @@
 //!
 //! - `generate texts SEED COUNT`: so many framed texts
 //! - `generate script SEED`: a framed text and calls over it, for `replay`
+//! - `generate pieces SEED COUNT`: so many framed scripts, each a text in pieces, for `pieces`
 //! - `generate distribution SEED COUNT`: how often each verdict comes among so many texts
 //! - `generate answers SEED COUNT`: how often each answer comes in so many runs of calls
 
 use std::io::{self, BufWriter, Write};
 
-use second::generate::{answers, distribution, every_step, run, text, valid, Random};
+use second::generate::{answers, distribution, every_step, pieces, run, text, valid, Random};
 
 fn main() -> io::Result<()> {
     let arguments: Vec<String> = std::env::args().skip(1).collect();
@@ -39,6 +40,16 @@ fn main() -> io::Result<()> {
                 writeln!(out, "{call}")?;
             }
         }
+        ["pieces", seed, count] => {
+            let mut random = Random::new(number(seed));
+            for _ in 0..number(count) {
+                let (mut script, mut framed) = (Vec::new(), Vec::new());
+                let calls = pieces(&mut random);
+                calls.iter().for_each(|call| call.write(&mut script));
+                second::frame::write(&script, &mut framed);
+                out.write_all(&framed)?;
+            }
+        }
         ["distribution", seed, count] => {
             let seen = distribution(number(seed), number(count) as usize);
             writeln!(out, "accepted {}", seen[0])?;
@@ -52,7 +63,7 @@ fn main() -> io::Result<()> {
             }
         }
         _ => {
-            eprintln!("generate texts SEED COUNT | script SEED | distribution SEED COUNT | answers SEED COUNT");
+            eprintln!("generate texts SEED COUNT | script SEED | pieces SEED COUNT | distribution SEED COUNT | answers SEED COUNT");
             std::process::exit(2);
         }
     }

@@ -9,12 +9,15 @@ mod grammar;
 mod limits;
 mod lines;
 mod order;
+mod pieces;
 mod places;
 mod rules;
 mod runs;
 mod scripts;
 mod sizes;
 mod tokens;
+
+pub use pieces::{scripts as piece_scripts, PieceScript};
 
 use crate::{frame, load, outline, replay, token_line};
 
@@ -125,6 +128,7 @@ pub fn files() -> Result<Vec<StoredFile>, String> {
     let mut files = token_files();
     files.extend(text_files()?);
     files.extend(script_files()?);
+    files.extend(piece_files()?);
     Ok(files)
 }
 
@@ -186,6 +190,28 @@ fn script_files() -> Result<Vec<StoredFile>, String> {
         ("crates/replay/stdin".to_string(), input),
         ("crates/replay/stdout".to_string(), output.into_bytes()),
         (format!("{HOME}/scripts.names"), names.into_bytes()),
+    ])
+}
+
+/// Input and output of the proved program `arrivals`, framed scripts of pieces, and the scripts' names.
+fn piece_files() -> Result<Vec<StoredFile>, String> {
+    let mut framed = Vec::new();
+    let mut output = String::new();
+    let mut names = String::new();
+    for script in piece_scripts() {
+        let written = crate::pieces::script::run(&script.lines);
+        if written != script.expected {
+            let PieceScript { name, expected, .. } = script;
+            return Err(format!("{name}: {written:?}, not {expected:?}"));
+        }
+        frame::write(&script.lines, &mut framed);
+        output.extend(written.iter().map(|line| format!("{line}\n")));
+        names += &format!("{}\n", script.name);
+    }
+    Ok(vec![
+        ("crates/arrivals/stdin".to_string(), framed),
+        ("crates/arrivals/stdout".to_string(), output.into_bytes()),
+        (format!("{HOME}/pieces.names"), names.into_bytes()),
     ])
 }
 

@@ -1,0 +1,4 @@
+pub mod Holding
+pub mod Cut
+pub mod AnyCall
+pub mod PieceLaws
