@@ -16,7 +16,7 @@ use Rattle.details.specs.Rows.{holderOf}
 
 -- 14, 15: the first bit or register that variable v shares with an earlier one where it may not, or how many there can be
 abbrev pub most : Shared → ℕ
-most Bit = 2048
+most Bit = 4096
 most Register = 64
 
 unfoldable pub firstShared : List ℕ → ℕ → Part → Shared → ℕ

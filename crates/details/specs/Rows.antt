@@ -14,11 +14,11 @@ use Rattle.details.specs.Search.{firstIn}
 
 -- the variable that holds bit b of register i, or their count
 abbrev pub holderOf : List ℕ → Part → ℕ → ℕ → ℕ
-holderOf vs part i b = firstIn vs (Holds part (32 * i + b))
+holderOf vs part i b = firstIn vs (Holds part (64 * i + b))
 
 -- the weight that it has in that variable
 abbrev pub weightOf : List ℕ → Part → ℕ → ℕ → ℕ
-weightOf vs part i b = weightIn vs part (32 * i + b) (holderOf vs part i b)
+weightOf vs part i b = weightIn vs part (64 * i + b) (holderOf vs part i b)
 
 -- bits a and b of a register belong together: one variable holds them, and in it they lie as far apart as here
 abbrev pub together : List ℕ → Part → ℕ → ℕ → ℕ → Bool

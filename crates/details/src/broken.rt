@@ -14,7 +14,7 @@ fn most_of(shared: Shared) -> usize
     ensures { λ r. ⌜ r ≡ most shared ⌝ }
 {
     match shared {
-        Shared::Bit => 2048,
+        Shared::Bit => 4096,
         Shared::Register => 64,
     }
 }

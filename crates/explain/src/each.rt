@@ -83,7 +83,7 @@ fn show_inside(text: &[u8], registers: &[u32], part: Part, piece: Piece) {
     }
     let b = first_in(registers, Test::Undotted(i, part, piece.low, piece.high));
     if b < 8 {
-        show_bit(text, registers, 32 * (i as usize) + b as usize);
+        show_bit(text, registers, 64 * (i as usize) + b as usize);
         write(b" is no dot of its mask");
         purpose(part);
         write(b"\n");

@@ -28,7 +28,7 @@ use tables::pieces::bit_count;
 fn show_taken(text: &[u8], registers: &[u32], variables: &[u32], part: Part) {
     let v = last(variables);
     let bit = first_shared(variables, v, part, Shared::Bit);
-    if bit < 2048 {
+    if bit < 4096 {
         let u = first_in(variables, Test::Shares(v, part, Shared::Bit, bit));
         show_bit(text, registers, bit);
         write(b" is mapped already by ");
@@ -65,7 +65,7 @@ fn show_puller(text: &[u8], variables: &[u32], v: u32, part: Part) {
 fn show_bare(text: &[u8], registers: &[u32], variables: &[u32], i: u32, part: Part) {
     let b = first_bare(registers, variables, i, part);
     if b < 8 {
-        show_bit(text, registers, 32 * (i as usize) + b as usize);
+        show_bit(text, registers, 64 * (i as usize) + b as usize);
         write(b" is mapped by no variable");
         purpose(part);
         write(b"\n");

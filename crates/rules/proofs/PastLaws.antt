@@ -130,7 +130,7 @@ module _ (ps rs vs : List ℕ) (x y z : List ℕ) (s : SoFar ps rs vs) (p-long :
       every-same 8 _ _ (λ b m.
       ap₂ (λ (d : ℕ) (t : Bool). not (bit b d) || t) (r-word (registerPart i p + 3) (omega arith))
       (some-same (countOf vs) _ _ (λ v k.
-      ap (has (32 * i + b)) (part-bits-same vs (vs ++ z) v (v-alike v k) v p (omega arith) h (shape-few (vs ++ z) v p h (shape-past v k))))))
+      ap (has (64 * i + b)) (part-bits-same vs (vs ++ z) v (v-alike v k) v p (omega arith) h (shape-few (vs ++ z) v p h (shape-past v k))))))
 
   pub covers-past : every (countOf rs) (λ i. covered rs vs (countOf vs) 0 i && covered rs vs (countOf vs) 1 i) ≡ true
       → every (countOf (rs ++ y)) (λ i. covered (rs ++ y) (vs ++ z) (countOf (vs ++ z)) 0 i && covered (rs ++ y) (vs ++ z) (countOf (vs ++ z)) 1 i) ≡ true

@@ -191,7 +191,7 @@ mapped-same a b n shapes same m = record { read = before-same 0 (omega arith) (m
     before-same : (p : ℕ) → p < 2 → {map : List ℕ} → Before a p n map → Before b p n map
     before-same p h k =
         record {
-          is = k .is ∙ map-same 2048 _ _ n (λ u l. part-enters-same a b u (near u l) u p (omega arith) h (few u p h l));
+          is = k .is ∙ map-same 4096 _ _ n (λ u l. part-enters-same a b u (near u l) u p (omega arith) h (few u p h l));
           narrows = sym (every-same n _ _ (λ u l. part-narrow-same a b u (near u l) u p (omega arith) h (few u p h l))) ∙ k .narrows;
         }
 

@@ -14,7 +14,7 @@ use Rattle.tables.proofs.pieces.trigger_apart.Statement.{statement}
 use Rattle.tables.proofs.pieces.trigger_apart.Tie as tie
 
 abbrev Inv-loop : tie.InvT-loop
-Inv-loop map variables at n asked ok₀ k₀ ok k = (k ≤ n) × (ok ≡ free map (joined (λ j. (32 * pieceRegister variables (pieceAt at j) + asked) ∷ []) k))
+Inv-loop map variables at n asked ok₀ k₀ ok k = (k ≤ n) × (ok ≡ free map (joined (λ j. (64 * pieceRegister variables (pieceAt at j) + asked) ∷ []) k))
 
 abbrev μ-loop : tie.MeasureT-loop
 μ-loop map variables at n asked ok₀ k₀ ok k = n - k
@@ -71,14 +71,14 @@ loop-again : tie.Need-loop-again Inv-loop μ-loop
 loop-again c =
     let s = c .before .before .before .before .before .before .before .before .before .args in
     let l = c .before .before .before .loop in
-    (omega arith, free-more (s .map .now) _ (l .k) (l .inv .1) (free-one (s .map .now) _ _ (ap (λ (r : ℕ). 32 * r + c .before .before .before .before .pick .result) (c .before .word3 .ensures .is)) (c .unmarked .ensures)) refl)
+    (omega arith, free-more (s .map .now) _ (l .k) (l .inv .1) (free-one (s .map .now) _ _ (ap (λ (r : ℕ). 64 * r + c .before .before .before .before .pick .result) (c .before .word3 .ensures .is)) (c .unmarked .ensures)) refl)
 
 returns : tie.Need-returns Inv-loop μ-loop
 returns c =
     let s = c .before .before .before .before .before .before .before .args in
     let l = c .before .loop in
     let asked = c .before .before .pick .ensures ∙ ap (λ (t : ℕ). cond (eqb t 1) 8 9) (c .before .before .before .word2 .ensures .is) in
-    let numbers : ℕ → ℕ → List ℕ = λ h k. joined (λ j. (32 * pieceRegister (s .variables .now) (pieceAt (s .at) j) + h) ∷ []) k in
+    let numbers : ℕ → ℕ → List ℕ = λ h k. joined (λ j. (64 * pieceRegister (s .variables .now) (pieceAt (s .at) j) + h) ∷ []) k in
     at-count (λ (k : ℕ). free (s .map .now) (numbers (cond (eqb (variablePartIn (s .variables .now) (s .at) .trigger) 1) 8 9) k)) (l .inv .0) (c .loop-test .left)
     (c .before .before .before .before .word .ensures .is) (l .inv .1 ∙ ap (λ (h : ℕ). free (s .map .now) (numbers h (l .k))) asked)
 
