@@ -49,7 +49,7 @@ pub fn offer_read(
 pub fn offer_write(
     registers: &[u32],
     variables: &[u32],
-    held: &[u8],
+    held: &[u32],
     v: usize,
     step: usize,
     value: usize,
