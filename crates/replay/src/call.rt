@@ -22,7 +22,7 @@ pub enum Request {
     Open(usize),
     Read(usize),
     Write(usize, i64),
-    Confirm(u8),
+    Confirm(u32),
     Abandon,
 }
 
@@ -99,7 +99,7 @@ fn operation_of(verb: &[u8], tail: &[u8]) -> Call
     }
     if is(verb, b"confirm") {
         let byte = below(256, number_of(only_word(tail)));
-        let b = or_zero(byte) as u8;
+        let b = or_zero(byte) as u32;
         return with_number(byte, Request::Confirm(b));
     }
     if is(verb, b"abandon") {

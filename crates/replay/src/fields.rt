@@ -72,16 +72,16 @@ pub fn or_zero(number: Number) -> usize
     }
 }
 
-// The byte that a word is, and 0 where it is none.
-fn byte_of(byte: &[u8]) -> u8
+// The number of a register that a word is, and 0 where it is none.
+fn byte_of(byte: &[u8]) -> u32
     ensures { λ r. ⌜ r ≡ byteOf (now (byte .entry)) ⌝ }
 {
     let number = below(256, number_of(byte));
-    or_zero(number) as u8
+    or_zero(number) as u32
 }
 
 // Stores nothing past the end.
-fn put(bytes: &mut [u8], at: usize, b: u8)
+fn put(bytes: &mut [u32], at: usize, b: u32)
     ensures { λ _. ⌜ now (bytes .exit) ≡ stored (now (bytes .entry)) at b ⌝ }
 {
     if at < bytes.len() {
@@ -90,7 +90,7 @@ fn put(bytes: &mut [u8], at: usize, b: u8)
 }
 
 // The bytes that the words are go to the front of `bytes`, as many as it takes.
-fn lay(tail: &[u8], bytes: &mut [u8])
+fn lay(tail: &[u8], bytes: &mut [u32])
     ensures { λ _. ⌜ now (bytes .exit) ≡ laid (wordsOf (now (tail .entry))) 0 (now (bytes .entry)) ⌝ }
 {
     let mut more = tail;
@@ -109,10 +109,10 @@ fn lay(tail: &[u8], bytes: &mut [u8])
 }
 
 // The power-on bytes of an opening. No table has more registers than this has bytes.
-pub fn power_on(tail: &[u8]) -> [u8; 64]
+pub fn power_on(tail: &[u8]) -> [u32; 64]
     ensures { λ r. ⌜ r ≡ powerOn (wordsOf (now (tail .entry))) ⌝ }
 {
-    let mut power = [0u8; 64];
+    let mut power = [0u32; 64];
     lay(tail, &mut power);
     power
 }
