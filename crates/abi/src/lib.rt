@@ -219,19 +219,19 @@ pub extern "C" fn desfanuk_confirm(
     held: &mut [u32],
     marks: &mut [u8],
     operation: &mut [u64],
-    byte: u32,
+    number: u32,
     answer: &mut [i64],
 ) -> u64
     ensures { λ r. ⌜ Tells
         (confirm sound
         (tablesOf (now (parameters .entry)) (now (registers .entry)) (now (variables .entry)))
         (lent (now (held .entry)) (now (marks .entry)) (operationOf (now (operation .entry))))
-        byte)
+        number)
         (now (operation .entry)) (now (answer .entry))
         (now (held .exit)) (now (marks .exit)) (now (operation .exit)) (now (answer .exit)) r ⌝ }
 {
     let in_hand = words::operation_of(operation);
-    let outcome = station::confirm(parameters, registers, variables, held, marks, in_hand, byte);
+    let outcome = station::confirm(parameters, registers, variables, held, marks, in_hand, number);
     words::tell(outcome, operation, answer)
 }
 
