@@ -3,7 +3,7 @@ use Prim.Native.Nat.{ℕ, _+_, _-_, _*_, _≤_, _<_, _^_}
 use native.Mathlib.Omega.{arith}
 use native.Mathlib.Nat.{lt-of-lt-of-le, min-le-left}
 use mathlib.Core.Path.{_≡_, refl, sym, ap, ap₂, _∙_}
-use mathlib.Core.Bool.{Bool, true, false, _&&_}
+use mathlib.Core.Bool.{Bool, true, false, _&&_, and-false}
 use mathlib.Core.List.{List}
 use lib.Dec.{eqb}
 use lib.Bits.{bitAnd, and-lt}
@@ -103,12 +103,8 @@ module _ (w : ℕ) (mask : List ℕ) where
       record { dots-small = lt-of-lt-of-le (small Dot) wide; fixed-small = lt-of-lt-of-le (small Fixed) wide; dots-apart = apart; ones-inside = inside }
 
 -- 0 has no bit in common with another number
-and-false : (a b : Bool) → b ≡ false → (a && b) ≡ false
-and-false true b e = e
-and-false false b e = refl
-
 and-nothing : (n : ℕ) → bitAnd n 0 ≡ 0
-and-nothing n = same-bits (bitAnd n 0) 0 (λ b. bit-and b n 0 ∙ and-false (bit b n) (bit b 0) (bit-none b) ∙ sym (bit-none b))
+and-nothing n = same-bits (bitAnd n 0) 0 (λ b. bit-and b n 0 ∙ ap (λ (x : Bool). bit b n && x) (bit-none b) ∙ and-false (bit b n) ∙ sym (bit-none b))
 
 dots-fitting : (w : ℕ) → Fitting w (allDots w)
 unfolding allDots

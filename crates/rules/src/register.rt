@@ -157,7 +157,12 @@ fn part_mask(text: &[u8], width: u32, masks: Masks, own: u8, quote: usize) -> Ma
     ensures { λ r. ⌜ r ≡ partMask (now (text .entry)) width masks own quote ⌝ }
 {
     let given = 1 <= (masks.bare as u32) + (own as u32);
-    mask::mask_at(text, width, given, words::choose(own == 0, masks.whole, quote))
+    mask::mask_at(
+        text,
+        width,
+        given,
+        words::choose(own == 0, masks.whole, quote),
+    )
 }
 
 // The words of a part that is there or not.

@@ -81,7 +81,7 @@ same-length : tie.Need-same-length Inv-loop μ-loop
 same-length c = c .before .loop .inv .1
 
 returns : tie.Need-returns Inv-loop μ-loop
-returns c = 
+returns c =
     let e : c .before .loop .k ≡ c .before .before .before .before .before .before .before .args .count = omega arith in
     (c .before .loop .inv .2 ∙ ap (unknownIn _ _ _) e, c .before .loop .inv .3 ∙ ap (piecesOn _ _ _ _) e)
 
