@@ -420,6 +420,9 @@ fn bits_above_the_width_count_as_0() {
             let got = noisy.perform(lent, &call);
             assert_eq!(got, want, "{call}");
             assert_eq!(cut(&description, &noisy.record), clean.record, "{call}");
+            if got == Some(Answer::Opened) {
+                assert_eq!(noisy.record, clean.record, "what an opening keeps");
+            }
             assert_eq!(
                 (&noisy.marks, noisy.operation),
                 (&clean.marks, clean.operation)
