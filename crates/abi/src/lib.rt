@@ -231,7 +231,15 @@ pub extern "C" fn desfanuk_confirm(
         (now (held .exit)) (now (marks .exit)) (now (operation .exit)) (now (answer .exit)) r ⌝ }
 {
     let in_hand = words::operation_of(operation);
-    let outcome = station::confirm(parameters, registers, variables, held, marks, in_hand, number);
+    let outcome = station::confirm(
+        parameters,
+        registers,
+        variables,
+        held,
+        marks,
+        in_hand,
+        number,
+    );
     words::tell(outcome, operation, answer)
 }
 

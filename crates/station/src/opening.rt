@@ -1,10 +1,9 @@
-// The opening: the record takes the power-on bytes, and every mark is cleared.
+// The opening: the record takes the power-on numbers, and every mark is cleared.
 ghost use mathlib.Core.Path.{_≡_};
-ghost use mathlib.Core.List.{[]};
-ghost use Prim.Native.Nat.{_≤_};
+ghost use Prim.Native.Nat.{_≤_, _<_, _%_, _^_};
 ghost use lib.ListN.{length};
 ghost use Rattle.station.specs.Standing.{tablesOf};
-ghost use Rattle.station.specs.Station.{copied, openFault};
+ghost use Rattle.station.specs.Station.{stored, powerOf, openFault};
 ghost use Rattle.tables.specs.View.{sound};
 ghost use Rattle.station.specs.Calls.{opening};
 ghost use Rattle.station.specs.Promise.{lent, Meets};
@@ -14,14 +13,29 @@ use crate::Outcome;
 use crate::outcomes::refuse;
 use crate::standing::fault;
 
-// The first `n` numbers of `target` become those of `source`, and 0 where it has none.
-fn copy_numbers(source: &[u32], target: &mut [u32], n: usize)
+// A number without its bits from a width up.
+fn cut(number: usize, width: usize) -> usize
+    requires { ⌜ number < 2 ^ 32 ⌝ }
+    ensures { λ r. ⌜ r ≡ number % 2 ^ width ⌝ }
+{
+    if width <= 32 {
+        number & (bits::power(width) - 1)
+    } else {
+        number
+    }
+}
+
+// The first `n` numbers of `target` become those of `power`, each cut to its register's width, and 0 where there is none.
+fn copy_numbers(registers: &[u32], power: &[u32], target: &mut [u32], n: usize)
     requires { ⌜ n ≤ length (now target) ⌝ }
-    ensures { λ _. ⌜ now (target .exit) ≡ copied (now (source .entry)) (now (target .entry)) n ⌝ }
+    requires { ⌜ n < 2 ^ 32 ⌝ }
+    ensures { λ _. ⌜ now (target .exit) ≡ stored (powerOf (now (registers .entry)) (now (power .entry))) (now (target .entry)) n ⌝ }
 {
     let mut i: usize = 0;
     while i < n {
-        target[i] = tables::words::word(source, i) as u32;
+        let width = tables::words::word(registers, 15 * i + 1 + 2);
+        let number = tables::words::word(power, i);
+        target[i] = cut(number, width) as u32;
         i += 1;
     }
 }
@@ -29,7 +43,7 @@ fn copy_numbers(source: &[u32], target: &mut [u32], n: usize)
 // The first `n` marks become 0.
 fn clear_marks(marks: &mut [u8], n: usize)
     requires { ⌜ n ≤ length (now marks) ⌝ }
-    ensures { λ _. ⌜ now (marks .exit) ≡ copied [] (now (marks .entry)) n ⌝ }
+    ensures { λ _. ⌜ now (marks .exit) ≡ stored (λ v. 0) (now (marks .entry)) n ⌝ }
 {
     let mut i: usize = 0;
     while i < n {
@@ -94,7 +108,7 @@ pub fn open(
     if number != 0 {
         return refuse(operation, number);
     }
-    copy_numbers(power, held, tables::words::word(registers, 0));
+    copy_numbers(registers, power, held, tables::words::word(registers, 0));
     clear_marks(marks, tables::words::word(variables, 0));
     Outcome {
         operation: Operation::Idle,

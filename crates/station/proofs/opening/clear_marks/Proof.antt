@@ -4,20 +4,19 @@ use mathlib.Core.Path.{_≡_, sym, refl}
 use native.Mathlib.Omega.{arith}
 use borrow.Author.Needs.{needs}
 use lib.ListN.{length, length-set}
-use Rattle.station.specs.Station.{copied}
-use Rattle.station.proofs.CallLaws.{copied-turn, copied-none}
-use mathlib.Core.List.{[]}
+use Rattle.station.specs.Station.{stored}
+use Rattle.station.proofs.CallLaws.{stored-turn, stored-none}
 use Rattle.station.proofs.opening.clear_marks.Statement.{statement}
 use Rattle.station.proofs.opening.clear_marks.Tie as tie
 
 abbrev Inv-loop : tie.InvT-loop
-Inv-loop marks₀ n i₀ marks i = (i ≤ n) × (length marks ≡ length marks₀) × (marks ≡ copied [] marks₀ i)
+Inv-loop marks₀ n i₀ marks i = (i ≤ n) × (length marks ≡ length marks₀) × (marks ≡ stored (λ v. 0) marks₀ i)
 
 abbrev μ-loop : tie.MeasureT-loop
 μ-loop marks₀ n i₀ marks i = n - i
 
 loop-holds : tie.Need-loop-holds Inv-loop μ-loop
-loop-holds c = (search needs, refl, sym (copied-none _ _))
+loop-holds c = (search needs, refl, sym (stored-none (λ v. 0) _))
 
 slice-write-marks : tie.Need-slice-write-marks Inv-loop μ-loop
 slice-write-marks c = omega arith
@@ -31,7 +30,7 @@ loop-less c = omega arith
 loop-again : tie.Need-loop-again Inv-loop μ-loop
 loop-again c =
     let l = c .before .loop in
-    (omega arith, simp length-set (l .inv .1), copied-turn [] _ _ _ 0 (l .inv .2) refl)
+    (omega arith, simp length-set (l .inv .1), stored-turn (λ v. 0) _ _ _ 0 (l .inv .2) refl)
 
 same-length : tie.Need-same-length Inv-loop μ-loop
 same-length c = c .before .loop .inv .1

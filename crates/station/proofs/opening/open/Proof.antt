@@ -1,11 +1,10 @@
 -- `station::opening::open` meets its contract.
 use Prim.Native.Nat.{ℕ}
 use mathlib.Core.Path.{_∙_, ap, refl}
-use mathlib.Core.List.{[]}
 use denote.Ref.{now}
 use Rattle.tables.specs.View.{Tables}
 use Rattle.station.specs.Standing.{tablesOf}
-use Rattle.station.specs.Station.{State, stateOf, copied}
+use Rattle.station.specs.Station.{State, stateOf, stored, powerOf}
 use Rattle.station.proofs.CallLaws.{opens}
 use Rattle.station.proofs.Meeting.{meets-refused, meets-passed}
 use Rattle.station.proofs.Bridge.{open-is}
@@ -34,7 +33,7 @@ word-requires c κs = search needs
 copy-numbers-requires : tie.Need-copy-numbers-requires
 copy-numbers-requires c κs =
     let clear = opens (tables-at (c .before .before .before .before .before .before .before .before .before .before)) _ _ _ _ (c .before .before .before .open-fault .ensures) (c .before .before .if1 .left) in
-    rw (c .word .ensures .is) (clear .held-long)
+    (rw (c .word .ensures .is) (clear .held-long), c .word .ensures .small)
 
 word-requires-2 : tie.Need-word-requires-2
 word-requires-2 c κs = search needs
@@ -55,8 +54,8 @@ returns-2 c =
     let a = c .before .before .before .before .before .before .before .before .before .before .before .before .before .before .before .before .before .before .args in
     meets-passed (state-at (c .before .before .before .before .before .before .before .before .before .before .before .before .before .before .before .before .before .before)) _ (open-is (tables-at (c .before .before .before .before .before .before .before .before .before .before .before .before .before .before .before .before .before .before)) (now (c .before .before .before .before .before .before .before .before .before .before .before .before .before .before .before .before .before .before .args .power)) (state-at (c .before .before .before .before .before .before .before .before .before .before .before .before .before .before .before .before .before .before))) (c .before .before .before .before .before .before .before .before .before .before .before .open-fault .ensures) (c .before .before .before .before .before .before .before .before .before .before .if1 .left) refl (record {
       outcome-is = refl;
-      held-is = c .before .before .before .before .before .before .before .copy-numbers .ensures ∙ ap (λ (n : ℕ). copied (now (a .power)) (now (a .held)) n) (c .before .before .before .before .before .before .before .before .word .ensures .is);
-      marks-is = c .before .before .clear-marks .ensures ∙ ap (λ (n : ℕ). copied [] (now (a .marks)) n) (c .before .before .before .word2 .ensures .is);
+      held-is = c .before .before .before .before .before .before .before .copy-numbers .ensures ∙ ap (λ (n : ℕ). stored (powerOf (now (a .registers)) (now (a .power))) (now (a .held)) n) (c .before .before .before .before .before .before .before .before .word .ensures .is);
+      marks-is = c .before .before .clear-marks .ensures ∙ ap (λ (n : ℕ). stored (λ v. 0) (now (a .marks)) n) (c .before .before .before .word2 .ensures .is);
     })
 
 pub open-spec : {M : Type 1} → statement M
