@@ -2,6 +2,7 @@
 ghost use mathlib.Core.Path.{_≡_};
 ghost use Prim.Native.Nat.{_≤_, _<_};
 ghost use lib.ListN.{getD};
+ghost use Rattle.bits.specs.Widths.{widest};
 ghost use Rattle.wiring.specs.Pieces.{Usable};
 ghost use Rattle.station.specs.Variable.{partOf, widthOf, Byte};
 ghost use Rattle.station.specs.Access.{cellOf, byteToWrite, fitsMask, gatherByte, accessOf, readAccess, writeAccess};
@@ -69,7 +70,7 @@ pub fn fits_mask(registers: &[u32], r: usize, byte: u32) -> bool
 pub fn gather_byte(variables: &[u32], v: usize, n: usize, so_far: usize, byte: u32) -> usize
     requires { ⌜ v < 128 ⌝ }
     requires { ⌜ Usable (partOf (now variables) v 0) ⌝ }
-    requires { ⌜ widthOf (now variables) v ≤ 32 ⌝ }
+    requires { ⌜ widthOf (now variables) v ≤ widest ⌝ }
     ensures { λ r. ⌜ r ≡ gatherByte (now (variables .entry)) v n «so_far» byte ⌝ }
 {
     let part = part_of(variables, v, 0);

@@ -2,6 +2,7 @@
 ghost use mathlib.Core.Path.{_≡_};
 ghost use Prim.Native.Nat.{_≤_, _<_, _%_, _^_};
 ghost use lib.ListN.{length};
+ghost use Rattle.bits.specs.Widths.{widest};
 ghost use Rattle.station.specs.Standing.{tablesOf};
 ghost use Rattle.station.specs.Station.{stored, powerOf, openFault};
 ghost use Rattle.tables.specs.View.{sound};
@@ -15,10 +16,10 @@ use crate::standing::fault;
 
 // A number without its bits from a width up.
 fn cut(number: usize, width: usize) -> usize
-    requires { ⌜ number < 2 ^ 32 ⌝ }
+    requires { ⌜ number < 2 ^ widest ⌝ }
     ensures { λ r. ⌜ r ≡ number % 2 ^ width ⌝ }
 {
-    if width <= 32 {
+    if width <= bits::WIDEST {
         number & (bits::power(width) - 1)
     } else {
         number

@@ -1,4 +1,4 @@
--- `station::accesses::byte_to_write` meets its contract: what is assembled over a width of at most 32 bits is a u32.
+-- `station::accesses::byte_to_write` meets its contract: what is assembled over a register's width fits an access.
 use Prim.Native.Nat.{_<_, _≤_, _^_}
 use native.Mathlib.Nat.{lt-of-lt-of-le}
 use lib.Pow.{pow-mono}
@@ -9,6 +9,7 @@ use borrow.Author.Needs.{needs}
 use Rattle.wiring.specs.declared.Cell.{Cell}
 use Rattle.wiring.specs.declared.Rule.the-variants.{Written}
 use Rattle.wiring.specs.Assembly.{bitBy}
+use Rattle.bits.specs.Widths.{widest}
 use Rattle.bits.proofs.BitLaws.{number-lt}
 use Rattle.station.specs.Access.{byteToWrite}
 use Rattle.station.proofs.Laws.{assembled-same, usable-same}
@@ -39,7 +40,7 @@ assemble-requires c κs = (usable-same (c .before .before .part-of .ensures) (c 
 cast-result : tie.Need-cast-result
 cast-result c =
     let a = c .before .before .before .before .before .before .before .args in
-    let width : c .before .word .result ≤ 32 = omega (arith, c .before .word .ensures .is, c .before .before .before .before .before .before .before .pre .1 .1 .wide) in
+    let width : c .before .word .result ≤ widest = omega (arith, c .before .word .ensures .is, c .before .before .before .before .before .before .before .pre .1 .1 .wide) in
     let below : c .assemble .result < 2 ^ c .before .word .result =
     rw (c .assemble .ensures) (number-lt (c .before .word .result) (bitBy (now (a .variables)) (c .before .before .before .part-of .result) (Written (c .before .before .cell-of .result) (a .value)))) in
     record { fits = lt-of-lt-of-le below (pow-mono width) }
