@@ -64,7 +64,7 @@ fn same_holders(variables: &[u32], i: u32) -> bool
 {
     let mut ok = true;
     let mut b: u32 = 0;
-    while b < 8 {
+    while b < 32 {
         ok = ok & same_bit(variables, i, b);
         b += 1;
     }
