@@ -70,10 +70,7 @@ pub struct Station<'d> {
 impl<'d> Station<'d> {
     /// Opens a description with the number that each register holds at power-on. Fewer numbers than
     /// registers are refused by 21; what is over is ignored.
-    pub fn open(
-        description: &'d Description,
-        power_on: &[Number],
-    ) -> Result<Station<'d>, Refusal> {
+    pub fn open(description: &'d Description, power_on: &[Number]) -> Result<Station<'d>, Refusal> {
         let mut station = Station {
             description,
             record: vec![0; description.registers()],
