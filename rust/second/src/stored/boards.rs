@@ -22,6 +22,6 @@ pub fn cases(list: &mut List) {
     board!("mc146818.devil", "1 2 3");
     board!("parallel.devil", "1 3 12");
     board!("ne2000.devil", "2 29 28");
-    board!("ide.devil", "3 12 18");
+    board!("ide.devil", "3 12 19");
     board!("pci.devil", "1 3 20");
 }
