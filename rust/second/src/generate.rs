@@ -29,20 +29,20 @@ pub use written::written;
 /// A text of any kind: most are valid or break one rule on purpose, the others are damaged without
 /// a plan, and a few are mere bytes.
 pub fn text(random: &mut Random) -> Vec<u8> {
-    match random.below(22) {
+    match random.below(24) {
         0..=5 => valid(random),
-        6..=15 => {
+        6..=17 => {
             let rule = *random.pick(&BROKEN);
             broken(random, rule)
         }
-        16..=20 => damaged(random),
+        18..=22 => damaged(random),
         _ => random_bytes(random),
     }
 }
 
 /// The rules that texts break on purpose; those that are broken in many ways come more often.
-const BROKEN: [u8; 21] = [
-    2, 3, 4, 5, 6, 7, 8, 9, 9, 10, 11, 11, 11, 12, 12, 12, 12, 13, 14, 15, 16,
+const BROKEN: [u8; 22] = [
+    2, 3, 4, 5, 6, 7, 8, 9, 9, 10, 11, 11, 11, 12, 12, 12, 12, 13, 13, 14, 15, 16,
 ];
 
 /// How often each refusal came (accepted is 0), over so many texts.
