@@ -1,10 +1,10 @@
 /*
  * Desfanuk for C: register descriptions in Devil, and the reads and writes of their variables.
  *
- * A board maker's description is loaded into three tables. An opening takes the tables and the byte
- * that each register holds at power-on. From then on each read or write of a variable is a run of
- * port accesses, offered one at a time: the station performs the access on offer and confirms it,
- * or abandons the operation. An operation is done at its last confirmation and never sooner, and a
+ * A board maker's description is loaded into three tables. An opening takes the tables and the
+ * number that each register holds at power-on. From then on each read or write of a variable is a
+ * run of port accesses, offered one at a time: the station performs the access on offer and
+ * confirms it, or abandons the operation. An operation is done at its last confirmation and never sooner, and a
  * variable whose write was abandoned cannot be read until a write of it finishes.
  *
  * The functions are in the archive that `rt staticlib abi` writes, target/staticlib/libabi.a; what
@@ -60,16 +60,24 @@ extern "C" {
 #define DESFANUK_GREATEST(kind, width) (((int64_t)1 << ((width) - ((kind) == 1 ? 1 : 0))) - 1)
 
 /*
+ * The word of the table of parameters that tells how many bits the port of parameter p has: 8, 16
+ * or 32, as all its registers have. An access of it carries so many.
+ */
+#define DESFANUK_PORT_WIDTH_WORD(p) (36 * (p) + 3)
+
+/*
  * The words of the table of registers that tell where the name of register r starts in the text and
- * how long it is, and which bits of its read mask are fixed and which of them are 1.
+ * how long it is, how many bits the register has, and which bits of its read mask are fixed and
+ * which of them are 1.
  */
 #define DESFANUK_REGISTER_NAME_WORD(r) (15 * (r) + 1)
 #define DESFANUK_REGISTER_NAME_LENGTH_WORD(r) (15 * (r) + 2)
+#define DESFANUK_REGISTER_WIDTH_WORD(r) (15 * (r) + 3)
 #define DESFANUK_READ_FIXED_WORD(r) (15 * (r) + 8)
 #define DESFANUK_READ_ONES_WORD(r) (15 * (r) + 9)
 
-/* The bits of a byte read that contradict a register's fixed bits: 0 where it obeys. */
-#define DESFANUK_CONTRADICTING(fixed, ones, byte) (((byte) & (fixed)) ^ (ones))
+/* The bits of a number read that contradict a register's fixed bits: 0 where it obeys. */
+#define DESFANUK_CONTRADICTING(fixed, ones, number) (((number) & (fixed)) ^ (ones))
 
 /* Words of the answer of desfanuk_load. */
 #define DESFANUK_VERDICT_WORDS 4
@@ -115,7 +123,7 @@ extern "C" {
 
 /*
  * Word 0 of an offer; then the access: its direction, its parameter's index, its offset, and the
- * byte to write (0 when reading).
+ * number to write, of the register's width (0 when reading).
  */
 #define DESFANUK_OFFER 2
 
@@ -126,8 +134,8 @@ extern "C" {
 #define DESFANUK_ABANDONED 4
 
 /*
- * Word 0 of a refusal that ended the read in hand; then its number, the index of the register whose
- * byte is to blame, 0, 0.
+ * Word 0 of a refusal that ended the read in hand; then its number, the index of the register that
+ * is to blame, 0, 0.
  */
 #define DESFANUK_STOPPED 5
 
@@ -163,7 +171,7 @@ extern "C" {
 #define DESFANUK_REFUSED_PLACE 10
 /* A bit that the part cannot map, a bad pairing of bit lists, or over 32 bits. */
 #define DESFANUK_REFUSED_BITS 11
-/* A width is not 8, or is unlike the bits. */
+/* A width is not 8, 16 or 32, or is unlike the port's, or unlike the bits. */
 #define DESFANUK_REFUSED_WIDTH 12
 /* `volatile` or `trigger` is repeated for a part, or given for a missing one. */
 #define DESFANUK_REFUSED_BEHAVIOUR 13
@@ -191,7 +199,7 @@ extern "C" {
 #define DESFANUK_REFUSED_TOO_LOW 27
 /* The variable is half-written. */
 #define DESFANUK_REFUSED_HALF_WRITTEN 28
-/* The byte read differs from a fixed bit of its register's read mask. The read is over. */
+/* The number read differs from a fixed bit of its register's read mask. The read is over. */
 #define DESFANUK_REFUSED_CONTRADICTED 52
 /* The value is above the greatest of the variable's type: DESFANUK_GREATEST. */
 #define DESFANUK_REFUSED_TOO_HIGH 55
@@ -252,8 +260,8 @@ uint32_t desfanuk_sound(const uint32_t *parameters, size_t parameters_len,
  * ---- the station. Its state between calls is the caller's, and is lent as the call before left
  * it:
  *
- *     held       the record, a byte for each register: the one last confirmed as written, at first
- *                the power-on byte
+ *     held       the record, a number of up to 32 bits for each register: the one last confirmed
+ *                as written, at first the power-on number
  *     marks      a byte for each variable: 0, or else it is half-written
  *     operation  the operation in hand, DESFANUK_OPERATION_WORDS
  *
@@ -262,14 +270,14 @@ uint32_t desfanuk_sound(const uint32_t *parameters, size_t parameters_len,
  */
 
 /*
- * Opens the tables with the byte that each register holds at power-on. Fills `held`, clears
- * `marks`, and ends an operation in hand.
+ * Opens the tables with the number that each register holds at power-on; bits above the register's
+ * width count as 0. Fills `held`, clears `marks`, and ends an operation in hand.
  */
 uint64_t desfanuk_open(const uint32_t *parameters, size_t parameters_len,
                        const uint32_t *registers, size_t registers_len,
                        const uint32_t *variables, size_t variables_len,
-                       const uint8_t *power, size_t power_len,
-                       uint8_t *held, size_t held_len,
+                       const uint32_t *power, size_t power_len,
+                       uint32_t *held, size_t held_len,
                        uint8_t *marks, size_t marks_len,
                        uint64_t *operation, size_t operation_len,
                        int64_t *answer, size_t answer_len);
@@ -278,7 +286,7 @@ uint64_t desfanuk_open(const uint32_t *parameters, size_t parameters_len,
 uint64_t desfanuk_begin_read(const uint32_t *parameters, size_t parameters_len,
                              const uint32_t *registers, size_t registers_len,
                              const uint32_t *variables, size_t variables_len,
-                             const uint8_t *held, size_t held_len,
+                             const uint32_t *held, size_t held_len,
                              const uint8_t *marks, size_t marks_len,
                              uint64_t *operation, size_t operation_len,
                              size_t variable,
@@ -291,7 +299,7 @@ uint64_t desfanuk_begin_read(const uint32_t *parameters, size_t parameters_len,
 uint64_t desfanuk_begin_write(const uint32_t *parameters, size_t parameters_len,
                               const uint32_t *registers, size_t registers_len,
                               const uint32_t *variables, size_t variables_len,
-                              const uint8_t *held, size_t held_len,
+                              const uint32_t *held, size_t held_len,
                               const uint8_t *marks, size_t marks_len,
                               uint64_t *operation, size_t operation_len,
                               size_t variable, int64_t value,
@@ -299,16 +307,17 @@ uint64_t desfanuk_begin_write(const uint32_t *parameters, size_t parameters_len,
 
 /*
  * Confirms that the access on offer was performed, once: offers the next one, or says that the
- * operation is done. The byte is what was read; for a write it is ignored. A byte that differs from
- * a fixed bit of its register's read mask (a dead cable reads as all ones) is refused by 52.
+ * operation is done. The number is what was read, and bits above its register's width count as 0;
+ * for a write it is ignored. A number that differs from a fixed bit of its register's read mask (a
+ * dead cable reads as all ones) is refused by 52.
  */
 uint64_t desfanuk_confirm(const uint32_t *parameters, size_t parameters_len,
                           const uint32_t *registers, size_t registers_len,
                           const uint32_t *variables, size_t variables_len,
-                          uint8_t *held, size_t held_len,
+                          uint32_t *held, size_t held_len,
                           uint8_t *marks, size_t marks_len,
                           uint64_t *operation, size_t operation_len,
-                          uint8_t byte,
+                          uint32_t number,
                           int64_t *answer, size_t answer_len);
 
 /*
@@ -319,7 +328,7 @@ uint64_t desfanuk_confirm(const uint32_t *parameters, size_t parameters_len,
 uint64_t desfanuk_abandon(const uint32_t *parameters, size_t parameters_len,
                           const uint32_t *registers, size_t registers_len,
                           const uint32_t *variables, size_t variables_len,
-                          const uint8_t *held, size_t held_len,
+                          const uint32_t *held, size_t held_len,
                           uint8_t *marks, size_t marks_len,
                           uint64_t *operation, size_t operation_len,
                           int64_t *answer, size_t answer_len);

@@ -18,7 +18,7 @@ static uint32_t registers[DESFANUK_REGISTERS_WORDS];
 static uint32_t variables[DESFANUK_VARIABLES_WORDS];
 
 /* The station's state between calls, and the answer of the last one. */
-static uint8_t held[DESFANUK_REGISTERS];
+static uint32_t held[DESFANUK_REGISTERS];
 static uint8_t marks[DESFANUK_VARIABLES];
 static uint64_t operation[DESFANUK_OPERATION_WORDS];
 static int64_t answer[DESFANUK_ANSWER_WORDS];
@@ -56,7 +56,7 @@ static int load(const char *path)
 /* Opens the station over a board whose registers are all 0 at power-on. */
 static int open_station(void)
 {
-    static const uint8_t power[DESFANUK_REGISTERS];
+    static const uint32_t power[DESFANUK_REGISTERS];
     desfanuk_open(TABLES, LENT(power), LENT(held), LENT(marks), LENT(operation), LENT(answer));
     return answer[0] == DESFANUK_OPENED;
 }
@@ -77,18 +77,20 @@ static uint8_t perform(void)
     return bytes[offset];
 }
 
-/* Tells which register gave a byte that contradicts it, and at which bits. */
-static void show_contradiction(uint8_t byte)
+/* Tells which register gave a number that contradicts it, and at which bits. */
+static void show_contradiction(uint32_t number)
 {
     size_t r = (size_t)answer[2];
     const uint8_t *name = text + registers[DESFANUK_REGISTER_NAME_WORD(r)];
     int length = (int)registers[DESFANUK_REGISTER_NAME_LENGTH_WORD(r)];
     uint32_t ones = registers[DESFANUK_READ_ONES_WORD(r)];
-    uint32_t bits = DESFANUK_CONTRADICTING(registers[DESFANUK_READ_FIXED_WORD(r)], ones, byte);
+    uint32_t bits = DESFANUK_CONTRADICTING(registers[DESFANUK_READ_FIXED_WORD(r)], ones, number);
+    int width = (int)registers[DESFANUK_REGISTER_WIDTH_WORD(r)];
     const char *link = ":";
     int bit;
-    printf("  refused (52): %.*s gave 0x%02X", length, (const char *)name, (unsigned)byte);
-    for (bit = 7; bit >= 0; bit -= 1) {
+    printf("  refused (52): %.*s gave 0x%0*lX", length, (const char *)name, width / 4,
+           (unsigned long)number);
+    for (bit = width - 1; bit >= 0; bit -= 1) {
         if (bits >> bit & 1) {
             printf("%s bit %d is fixed at %d", link, bit, (int)(ones >> bit & 1));
             link = ",";
@@ -100,7 +102,7 @@ static void show_contradiction(uint8_t byte)
 /* Carries out the operation that was begun, access by access, as far as the board answers. */
 static void carry_out(void)
 {
-    uint8_t byte = 0;
+    uint32_t number = 0;
     while (answer[0] == DESFANUK_OFFER) {
         if (patience == 0) {
             desfanuk_abandon(TABLES, LENT(held), LENT(marks), LENT(operation), LENT(answer));
@@ -108,13 +110,13 @@ static void carry_out(void)
             return;
         }
         patience -= 1;
-        byte = perform();
-        desfanuk_confirm(TABLES, LENT(held), LENT(marks), LENT(operation), byte, LENT(answer));
+        number = perform();
+        desfanuk_confirm(TABLES, LENT(held), LENT(marks), LENT(operation), number, LENT(answer));
     }
     if (answer[0] == DESFANUK_DONE) {
         printf("  done: %d, in %d accesses\n", (int)answer[1], (int)answer[2]);
     } else if (answer[0] == DESFANUK_STOPPED) {
-        show_contradiction(byte);
+        show_contradiction(number);
     } else if (answer[1] == DESFANUK_REFUSED_HALF_WRITTEN) {
         printf("  refused (28): the variable is half-written\n");
     } else {

@@ -1,7 +1,7 @@
 // The face for Rust and C: loading, and the station's calls, on numbers and slices alone. specs/Words.antt says how
 // words stand for an operation and an answer, specs/Loading.antt for a verdict, specs/Arriving.antt for the reply to a
 // piece. Each function takes its words apart, calls, and puts the answer together.
-//   held       the record: for each register the byte last confirmed as written, at first the power-on byte
+//   held       the record: for each register the number last confirmed as written, at first the power-on number
 //   marks      for each variable 0, or 1 where an abandoned write left it half-written
 //   operation  four words: the operation in hand
 //   answer     five words: the call's answer
@@ -118,8 +118,8 @@ pub extern "C" fn desfanuk_open(
     parameters: &[u32],
     registers: &[u32],
     variables: &[u32],
-    power: &[u8],
-    held: &mut [u8],
+    power: &[u32],
+    held: &mut [u32],
     marks: &mut [u8],
     operation: &mut [u64],
     answer: &mut [i64],
@@ -150,7 +150,7 @@ pub extern "C" fn desfanuk_begin_read(
     parameters: &[u32],
     registers: &[u32],
     variables: &[u32],
-    held: &[u8],
+    held: &[u32],
     marks: &[u8],
     operation: &mut [u64],
     variable: usize,
@@ -182,7 +182,7 @@ pub extern "C" fn desfanuk_begin_write(
     parameters: &[u32],
     registers: &[u32],
     variables: &[u32],
-    held: &[u8],
+    held: &[u32],
     marks: &[u8],
     operation: &mut [u64],
     variable: usize,
@@ -216,22 +216,30 @@ pub extern "C" fn desfanuk_confirm(
     parameters: &[u32],
     registers: &[u32],
     variables: &[u32],
-    held: &mut [u8],
+    held: &mut [u32],
     marks: &mut [u8],
     operation: &mut [u64],
-    byte: u8,
+    number: u32,
     answer: &mut [i64],
 ) -> u64
     ensures { λ r. ⌜ Tells
         (confirm sound
         (tablesOf (now (parameters .entry)) (now (registers .entry)) (now (variables .entry)))
         (lent (now (held .entry)) (now (marks .entry)) (operationOf (now (operation .entry))))
-        byte)
+        number)
         (now (operation .entry)) (now (answer .entry))
         (now (held .exit)) (now (marks .exit)) (now (operation .exit)) (now (answer .exit)) r ⌝ }
 {
     let in_hand = words::operation_of(operation);
-    let outcome = station::confirm(parameters, registers, variables, held, marks, in_hand, byte);
+    let outcome = station::confirm(
+        parameters,
+        registers,
+        variables,
+        held,
+        marks,
+        in_hand,
+        number,
+    );
     words::tell(outcome, operation, answer)
 }
 
@@ -240,7 +248,7 @@ pub extern "C" fn desfanuk_abandon(
     parameters: &[u32],
     registers: &[u32],
     variables: &[u32],
-    held: &[u8],
+    held: &[u32],
     marks: &mut [u8],
     operation: &mut [u64],
     answer: &mut [i64],

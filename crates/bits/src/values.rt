@@ -4,6 +4,7 @@ ghost use Prim.Native.Nat.{_≤_, _<_, _^_};
 ghost use lib.IntN.{negsuc, pos};
 ghost use lib.Signed.{_<ℤ_};
 ghost use Rattle.bits.specs.Values.{limitOf, encoded, decode};
+ghost use Rattle.bits.specs.Widths.{widest};
 use crate::power;
 
 pub enum Encoded {
@@ -13,7 +14,7 @@ pub enum Encoded {
 
 // The first natural number that the kind of value does not have.
 fn limit(kind: usize, width: usize) -> usize
-    requires { ⌜ width ≤ 32 ⌝ }
+    requires { ⌜ width ≤ widest ⌝ }
     ensures { λ r. ⌜ r ≡ limitOf kind width ⌝ }
 {
     let whole = power(width);
@@ -21,7 +22,7 @@ fn limit(kind: usize, width: usize) -> usize
 }
 
 fn encode_natural(kind: usize, width: usize, m: usize) -> Encoded
-    requires { ⌜ width ≤ 32 ⌝ }
+    requires { ⌜ width ≤ widest ⌝ }
     ensures { λ r. ⌜ r ≡ encoded kind width (pos m) ⌝ }
 {
     if m < limit(kind, width) {
@@ -33,7 +34,7 @@ fn encode_natural(kind: usize, width: usize, m: usize) -> Encoded
 
 // Of the value -(m + 1).
 fn encode_negative(kind: usize, width: usize, m: usize) -> Encoded
-    requires { ⌜ width ≤ 32 ⌝ }
+    requires { ⌜ width ≤ widest ⌝ }
     ensures { λ r. ⌜ r ≡ encoded kind width (negsuc m) ⌝ }
 {
     if (kind == 1) & (m < limit(kind, width)) {
@@ -52,7 +53,7 @@ fn below_zero(value: i64) -> usize
 }
 
 pub fn encode(kind: usize, width: usize, value: i64) -> Encoded
-    requires { ⌜ width ≤ 32 ⌝ }
+    requires { ⌜ width ≤ widest ⌝ }
     ensures { λ r. ⌜ r ≡ encoded kind width value ⌝ }
 {
     if value < 0 {
@@ -64,14 +65,14 @@ pub fn encode(kind: usize, width: usize, value: i64) -> Encoded
 
 // The value -(k + 1).
 fn negative(k: usize) -> i64
-    requires { ⌜ k < 2 ^ 32 ⌝ }
+    requires { ⌜ k < 2 ^ widest ⌝ }
     ensures { λ r. ⌜ r ≡ negsuc k ⌝ }
 {
     -1 - (k as i64)
 }
 
 pub fn decode(kind: usize, width: usize, pattern: usize) -> i64
-    requires { ⌜ (width ≤ 32) × (pattern < 2 ^ width) ⌝ }
+    requires { ⌜ (width ≤ widest) × (pattern < 2 ^ width) ⌝ }
     ensures { λ r. ⌜ r ≡ decode kind width pattern ⌝ }
 {
     if pattern < limit(kind, width) {

@@ -5,9 +5,10 @@ use mathlib.Core.Bool.{true}
 use mathlib.Core.List.{_∷_, _++_}
 use lib.ListN.{replicate}
 use Rattle.bits.specs.Bits.{bit}
+use Rattle.bits.specs.Widths.{isWidth}
 use Rattle.tables.specs.Every.{every, some, zerosFront}
 use Rattle.tables.specs.Marks.{joined, downFrom, has, meets, distinct}
-use Rattle.tables.specs.Rules.{rangesFit, parameterFault, parameterShape, offsetIn, placed, placeTaken, registerFault, registerPartShape, registerShape, onDots, pieceFits, partMaps, widthFits, typeFits, volatileFits, ownFault, variablePartShape, variableShape, mappedBefore, triggerShared, variableFault, covered}
+use Rattle.tables.specs.Rules.{asWide, widthKept, rangesFit, parameterFault, parameterShape, offsetIn, placed, placeTaken, registerFault, registerPartShape, registerShape, onDots, pieceFits, partMaps, widthFits, typeFits, volatileFits, ownFault, variablePartShape, variableShape, mappedBefore, triggerShared, variableFault, covered}
 use Rattle.tables.specs.Sound.{tablesFit, restZero, shapesFit, rulesKept}
 use Rattle.tables.specs.Sound as S
 use Rattle.tables.specs.View.{Tables, sound}
@@ -35,5 +36,5 @@ scoring =
     }
 
 pub scoring-sound : sound scoring ≡ true
-unfolding bit sound S.sound scoring tablesFit restZero zerosFront shapesFit rulesKept every some parameterShape registerShape registerPartShape variableShape variablePartShape parameterFault rangesFit registerFault placed offsetIn placeTaken variableFault ownFault partMaps pieceFits onDots joined downFrom distinct has meets typeFits widthFits volatileFits mappedBefore triggerShared covered
+unfolding bit sound S.sound scoring tablesFit restZero zerosFront shapesFit rulesKept every some parameterShape registerShape registerPartShape variableShape variablePartShape parameterFault isWidth widthKept asWide rangesFit registerFault placed offsetIn placeTaken variableFault ownFault partMaps pieceFits onDots joined downFrom distinct has meets typeFits widthFits volatileFits mappedBefore triggerShared covered
 scoring-sound = refl

@@ -2,7 +2,7 @@
 -- (What is not claimed: that every bit outside an abandoned variable's own stays. A neighbour's write puts the record's bits back over those of
 -- another half-written variable.)
 -- Assumes nothing.
-use Prim.Native.Nat.{ℕ, zero, suc, _^_, _<_, _≤_, suc-le-suc, zero-le}
+use Prim.Native.Nat.{ℕ, zero, suc, _^_, _<_, _≤_}
 use mathlib.Core.Path.{_≡_, refl, sym, ap, _∙_, subst}
 use mathlib.Core.Logic.{_⊎_, inl, inr}
 use mathlib.Core.Bool.{Bool, true, false, cond, true≢false, or-false}
@@ -16,7 +16,6 @@ use lib.ListN.{length, getD}
 use borrow.Author.Tests.{eqb-true, eqb-false, le-leb}
 use Rattle.tables.specs.declared.Part.the-variants.{Read as reading, Write as writing}
 use Rattle.tables.specs.View.{Tables, sound, Plain, Consistent, Place, registerCount, registerWidth, variableCount, kindOf, size, homeOf, spotOf, registersOf, Among, isAmong}
-use Rattle.tables.proofs.Consistent.{sound-wide}
 use Rattle.bits.specs.Bits.{bit, numberOf}
 use Rattle.bits.specs.Values.{encode, decode}
 use Rattle.station.specs.declared.Access.{Access}
@@ -84,12 +83,6 @@ unfolding listed
 listed-at zero cells r h = absurd (not-suc-le-zero h)
 listed-at (suc n) cells zero h = refl
 listed-at (suc n) cells (suc r) h = listed-at n (λ q. cells (suc q)) r (le-of-suc-le-suc h)
-
-listed-bytes : (n : ℕ) (cells : Cells) → ((r : ℕ) → r < n → cells r < 256) → (r : ℕ) → getD (listed n cells) r 0 < 256
-unfolding listed
-listed-bytes zero cells small r = omega arith
-listed-bytes (suc n) cells small zero = small 0 (suc-le-suc zero-le)
-listed-bytes (suc n) cells small (suc r) = listed-bytes n (λ q. cells (suc q)) (λ q h. small (suc q) (suc-le-suc h)) r
 
 -- ── in any world of the invariant ──
 
@@ -207,12 +200,10 @@ module _ {t : Tables} {power : List ℕ} (o : Opening t power) where
   stopped-holds : (calls : List Call) (performed : Bool) → InvW sound t (ok o) (rules o) (powerOn power) (step sound t (Abandon performed) (worldAfter o calls))
   stopped-holds calls performed = step-keeps sound t (ok o) (rules o) (powerOn power) (Abandon performed) (worldAfter o calls) (world-holds o calls)
 
-  bytes-left : (calls : List Call) (performed : Bool) (r : ℕ) → getD (readBack t (leftBy t performed (worldAfter o calls))) r 0 < 256
-  unfolding registerWidth registerCount sound
-  bytes-left calls performed =
-      listed-bytes (registerCount t) (leftBy t performed (worldAfter o calls))
-      (λ r hr. subst (λ (w : ℕ). leftBy t performed (worldAfter o calls) r < 2 ^ w) (sound-wide (t .parameters) (t .registers) (t .variables) (ok o) r hr)
-      (stopped-holds calls performed .1 .engine .small r hr))
+  numbers-left : (calls : List Call) (performed : Bool) (r : ℕ) → r < registerCount t
+      → getD (readBack t (leftBy t performed (worldAfter o calls))) r 0 < 2 ^ registerWidth t r
+  numbers-left calls performed r hr =
+      rw (listed-at (registerCount t) (leftBy t performed (worldAfter o calls)) r hr) (stopped-holds calls performed .1 .engine .small r hr)
 
   reopened : (bytes : List ℕ) (lent : State) → length bytes ≡ registerCount t → isLong t lent ≡ true → opening sound t bytes lent .answer ≡ Opened
   unfolding unless
@@ -230,7 +221,7 @@ module _ {t : Tables} {power : List ℕ} (o : Opening t power) where
   unfolding after
   power-lost =
       record {
-        bytes-again = bytes-left;
+        numbers-again = numbers-left;
         opens-again = λ calls performed lent long.
             reopened (readBack t (leftBy t performed (worldAfter o calls))) lent (length-listed (registerCount t) (leftBy t performed (worldAfter o calls))) long;
         settled-known = λ calls performed again v plain settled.

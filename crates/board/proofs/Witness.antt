@@ -1,6 +1,6 @@
 -- Demand 3 and what goes beyond it, on the scoring board: every premise is met, and what is said is computed as well.
 -- Assumes nothing.
-use Prim.Native.Nat.{ℕ, zero, suc, _<_}
+use Prim.Native.Nat.{ℕ, zero, suc, _<_, _^_}
 use mathlib.Core.Path.{_≡_, refl, ap, ap₂, _∙_}
 use mathlib.Core.Logic.{inl, inr}
 use mathlib.Core.Bool.{Bool, true, false, true≢false, false≢true}
@@ -18,7 +18,7 @@ use Rattle.station.specs.declared.Answer.{Answer}
 use Rattle.station.specs.declared.Answer.the-variants.{Refused, Opened, Done}
 use Rattle.bits.specs.Bits.{bit, numberOf}
 use Rattle.bits.specs.Values.{isBelow, isAbove, inRange, encode, decode}
-use Rattle.station.specs.Calls.{State, stepsOf, unless, isLong, isUnderway, isRead, isGathered, isAllowed, ownBit, otherBit, settingsBit, settingsByte, writtenByte, gatheredBit, gather, opening}
+use Rattle.station.specs.Calls.{State, cutTo, numbersIn, stepsOf, unless, isLong, isUnderway, isRead, isGathered, isAllowed, ownBit, otherBit, settingsBit, settingsByte, writtenByte, gatheredBit, gather, opening}
 use Rattle.board.specs.Board.{Gives, bitsIn, mustRead, World, Call, BeginRead, BeginWrite, Confirm, Abandon, put, answers, lastWhere, reached, after, opened, wholeRead, wholeWrite}
 use Rattle.board.specs.Demand.{Opening, worldAfter, dueAfter, writesOf, Work, EqualBoards}
 use Rattle.board.specs.Obedient.{Obedient}
@@ -41,16 +41,17 @@ accepted : opening sound scoring power lent .answer ≡ Opened
 unfolding unless isLong registerCount variableCount scoring
 accepted = rw scoring-sound
 
-power-bytes : (r : ℕ) → getD power r 0 < 256
-power-bytes zero = omega arith
-power-bytes (suc zero) = omega arith
-power-bytes (suc (suc zero)) = omega arith
-power-bytes (suc (suc (suc zero))) = omega arith
-power-bytes (suc (suc (suc (suc zero)))) = omega arith
-power-bytes (suc (suc (suc (suc (suc r))))) = omega arith
+power-numbers : (r : ℕ) → r < registerCount scoring → getD power r 0 < 2 ^ registerWidth scoring r
+unfolding registerCount registerWidth scoring
+power-numbers zero h = omega arith
+power-numbers (suc zero) h = omega arith
+power-numbers (suc (suc zero)) h = omega arith
+power-numbers (suc (suc (suc zero))) h = omega arith
+power-numbers (suc (suc (suc (suc zero)))) h = omega arith
+power-numbers (suc (suc (suc (suc (suc r))))) h = absurd (omega arith)
 
 start : Opening scoring power
-start = record { lent = lent; accepted = accepted; bytes = power-bytes }
+start = record { lent = lent; accepted = accepted; numbers = power-numbers }
 
 -- ── the plain variables are the score, the row and the seat ──
 
@@ -124,7 +125,7 @@ obedient =
 
 -- so the score at power-on is read back by the law
 due-at-first : dueAfter start [] 0 ≡ Gives (pos 0x734)
-unfolding start scoring after unless isLong mustRead bitsIn decode kindOf joined downFrom bitsOf size placeOf registerCount variableCount bit numberOf
+unfolding start scoring after cutTo numbersIn unless isLong mustRead bitsIn decode kindOf joined downFrom bitsOf size placeOf registerCount variableCount bit numberOf
 due-at-first = refl
 
 read-by-law : after sound scoring (wholeRead 0 (7 ∷ 7 ∷ [])) (worldAfter start []) .answer ≡ Done (pos 0x734) (stepsOf scoring reading 0)
@@ -211,7 +212,7 @@ left : List Call → List ℕ
 left calls = readBack scoring (worldAfter start calls .cells)
 
 boards-are : (left firstCalls ∷ left secondCalls ∷ []) ≡ (0x0A ∷ 0xBC ∷ 0x39 ∷ 0x7F ∷ 0x00 ∷ []) ∷ (0x0A ∷ 0xBD ∷ 0x39 ∷ 0x7F ∷ 0x00 ∷ []) ∷ []
-unfolding left run scoring listed writesOf after unless isLong isUnderway isRead isGathered isAllowed isBelow isAbove inRange encode decode variableCount registerCount registerWidth registerHas parameterOf offsetOf isDot isOne kindOf variableHas joined downFrom bitsOf size placeOf without mentions registersOf bit numberOf ownBit otherBit settingsBit settingsByte writtenByte gatheredBit gather put answers lastWhere reached obeys
+unfolding left run scoring listed writesOf after cutTo numbersIn unless isLong isUnderway isRead isGathered isAllowed isBelow isAbove inRange encode decode variableCount registerCount registerWidth registerHas parameterOf offsetOf isDot isOne kindOf variableHas joined downFrom bitsOf size placeOf without mentions registersOf bit numberOf ownBit otherBit settingsBit settingsByte writtenByte gatheredBit gather put answers lastWhere reached obeys
 boards-are =
     ap₂ (λ (w u : World). readBack scoring (w .cells) ∷ readBack scoring (u .cells) ∷ []) (run-is firstCalls) (run-is secondCalls)
 
@@ -250,7 +251,7 @@ told-is =
     )
 
 ran-is : ran ≡ Done (pos 0x734) 2 ∷ Refused 28 ∷ Refused 28 ∷ Done (pos 12) 1 ∷ Done (pos 0x456) 2 ∷ []
-unfolding ran run scoring after unless isLong isUnderway isRead isGathered isAllowed isBelow isAbove inRange encode decode variableCount registerCount registerWidth registerHas parameterOf offsetOf isDot isOne kindOf variableHas joined downFrom bitsOf size placeOf without mentions registersOf bit numberOf ownBit otherBit settingsBit settingsByte writtenByte gatheredBit gather put answers lastWhere reached obeys
+unfolding ran run scoring after cutTo numbersIn unless isLong isUnderway isRead isGathered isAllowed isBelow isAbove inRange encode decode variableCount registerCount registerWidth registerHas parameterOf offsetOf isDot isOne kindOf variableHas joined downFrom bitsOf size placeOf without mentions registersOf bit numberOf ownBit otherBit settingsBit settingsByte writtenByte gatheredBit gather put answers lastWhere reached obeys
 ran-is = refl
 
 -- ── power lost between the two registers of a score: what was 0x123 and was to be 0x456 reads as neither ──
@@ -262,7 +263,7 @@ abbrev lostPower : List ℕ
 lostPower = readBack scoring (leftBy scoring false (worldAfter start lostCalls))
 
 lost-is : lostPower ≡ 0x04 ∷ 0x23 ∷ 0x5C ∷ 0x7F ∷ 0x00 ∷ []
-unfolding run scoring listed after unless isLong isUnderway isRead isGathered isAllowed isBelow isAbove inRange encode decode variableCount registerCount registerWidth registerHas parameterOf offsetOf isDot isOne kindOf variableHas joined downFrom bitsOf size placeOf without mentions registersOf bit numberOf ownBit otherBit settingsBit settingsByte writtenByte gatheredBit gather put answers lastWhere reached obeys
+unfolding run scoring listed after cutTo numbersIn unless isLong isUnderway isRead isGathered isAllowed isBelow isAbove inRange encode decode variableCount registerCount registerWidth registerHas parameterOf offsetOf isDot isOne kindOf variableHas joined downFrom bitsOf size placeOf without mentions registersOf bit numberOf ownBit otherBit settingsBit settingsByte writtenByte gatheredBit gather put answers lastWhere reached obeys
 lost-is = ap (λ (w : World). readBack scoring (leftBy scoring false w)) (run-is lostCalls)
 
 again-long : isLong scoring lent ≡ true
@@ -274,11 +275,11 @@ again =
     record {
       lent = lent;
       accepted = power-lost start .opens-again lostCalls false lent again-long;
-      bytes = power-lost start .bytes-again lostCalls false;
+      numbers = power-lost start .numbers-again lostCalls false;
     }
 
 neither : after sound scoring (wholeRead 0 (7 ∷ 7 ∷ [])) (worldAfter again []) .answer ≡ Done (pos 0x423) 2
-unfolding again scoring after unless isLong isUnderway isRead isGathered isAllowed isBelow isAbove inRange encode decode variableCount registerCount registerWidth registerHas parameterOf offsetOf isDot isOne kindOf variableHas joined downFrom bitsOf size placeOf without mentions registersOf bit numberOf ownBit otherBit settingsBit settingsByte writtenByte gatheredBit gather put answers lastWhere reached obeys
+unfolding again scoring after cutTo numbersIn unless isLong isUnderway isRead isGathered isAllowed isBelow isAbove inRange encode decode variableCount registerCount registerWidth registerHas parameterOf offsetOf isDot isOne kindOf variableHas joined downFrom bitsOf size placeOf without mentions registersOf bit numberOf ownBit otherBit settingsBit settingsByte writtenByte gatheredBit gather put answers lastWhere reached obeys
 neither =
     ap (λ (w : World). w .answer) (after-passed scoring scoring-sound (wholeRead 0 (7 ∷ 7 ∷ [])) (opened sound scoring lostPower lent))
     ∙ ap (λ (w : World). after passed scoring (wholeRead 0 (7 ∷ 7 ∷ [])) w .answer) (opened-passed scoring scoring-sound lostPower lent)

@@ -1,11 +1,11 @@
 -- The invariant in the worlds of demand 3: from an accepted opening on, whatever is called.
 -- Assumes nothing.
-use Prim.Native.Nat.{ℕ, _<_, _^_}
+use Prim.Native.Nat.{ℕ}
 use mathlib.Core.Path.{_≡_}
 use mathlib.Core.Bool.{true}
 use mathlib.Core.List.{List}
-use Rattle.tables.specs.View.{Tables, sound, Consistent, registerCount, registerWidth}
-use Rattle.tables.proofs.Consistent.{consistent, sound-wide}
+use Rattle.tables.specs.View.{Tables, sound, Consistent}
+use Rattle.tables.proofs.Consistent.{consistent}
 use Rattle.board.specs.Board.{Call, opened}
 use Rattle.board.specs.Demand.{Opening, powerOn, worldAfter}
 use Rattle.board.proofs.Steps.{InvW, opening-long, opened-holds, after-keeps}
@@ -18,13 +18,8 @@ module _ {t : Tables} {power : List ℕ} (o : Opening t power) where
   abbrev pub rules : Consistent t
   rules = consistent t ok
 
-  -- every register has 8 bits, so that its power-on byte fits
-  fitting : (r : ℕ) → r < registerCount t → powerOn power r < 2 ^ registerWidth t r
-  unfolding registerWidth registerCount sound
-  fitting r hr = rw (sound-wide (t .parameters) (t .registers) (t .variables) ok r hr) (o .bytes r)
-
   pub start-holds : InvW sound t ok rules (powerOn power) (opened sound t power (o .lent))
-  start-holds = opened-holds sound t ok rules power (o .lent) (o .accepted) fitting
+  start-holds = opened-holds sound t ok rules power (o .lent) (o .accepted) (o .numbers)
 
   pub world-holds : (calls : List Call) → InvW sound t ok rules (powerOn power) (worldAfter o calls)
   world-holds calls = after-keeps sound t ok rules (powerOn power) calls (opened sound t power (o .lent)) start-holds

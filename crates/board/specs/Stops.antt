@@ -3,7 +3,7 @@
 -- reads, it says what a read is due that comes to be done: with two masks for one register, or a power-on value that
 -- does not obey, a read may be stopped by 52 (Demand.antt, `reads-back`).
 -- Assumes nothing.
-use Prim.Native.Nat.{ℕ, zero, suc, _<_}
+use Prim.Native.Nat.{ℕ, zero, suc, _<_, _^_}
 use mathlib.Core.Path.{_≡_}
 use mathlib.Core.Bool.{Bool, true, false, cond, not, _&&_}
 use mathlib.Core.List.{List, [], _∷_}
@@ -12,7 +12,7 @@ use lib.Dec.{eqb}
 use lib.IntN.{ℤ}
 use lib.ListN.{length, getD, take}
 use Rattle.tables.specs.declared.Part.the-variants.{Write as writing}
-use Rattle.tables.specs.View.{Tables, sound, Plain, registerCount, variableCount, variableHas, kindOf, size, homeOf, registersOf, Among, isAmong}
+use Rattle.tables.specs.View.{Tables, sound, Plain, registerCount, registerWidth, variableCount, variableHas, kindOf, size, homeOf, registersOf, Among, isAmong}
 use Rattle.bits.specs.Bits.{bit, numberOf}
 use Rattle.bits.specs.Values.{inRange, encode, decode}
 use Rattle.station.specs.declared.Answer.the-variants.{Opened}
@@ -85,7 +85,7 @@ pub record AtWork (t : Tables) (power : List ℕ) (o : Opening t power) : Type 0
 abbrev pub leftBy : Tables → Bool → World → Cells
 leftBy t performed w = cond performed (perform t (w .offer) (w .cells)) (w .cells)
 
--- the bytes of n cells, which the station reads back and opens with anew
+-- the numbers of n cells, which the station reads back and opens with anew
 unfoldable pub listed : ℕ → Cells → List ℕ
 listed zero cells = []
 listed (suc n) cells = cells 0 ∷ listed n (λ r. cells (suc r))
@@ -107,7 +107,7 @@ midWrite t w v z anys = after sound t (BeginWrite v z ∷ confirms anys) w
 abbrev pub setSoFar : Tables → ℕ → ℕ → Bool → List ℕ
 setSoFar t v confirmed performed = take (cond performed (suc confirmed) confirmed) (registersOf t writing v)
 
--- these registers hold the byte that a write of v with bits x puts there, the others what they held
+-- these registers hold the number that a write of v with bits x puts there, the others what they held
 abbrev pub wroteOver : Tables → Cells → ℕ → ℕ → List ℕ → Cells → Cells
 wroteOver t kept v x registers held r = cond (isAmong r registers) (writtenByte t kept v x r) (held r)
 
@@ -116,8 +116,9 @@ abbrev pub mixed : Tables → ℕ → List ℕ → (new old : ℕ) → ℕ
 mixed t v registers new old = numberOf (size t writing v) (λ j. cond (isAmong (homeOf t writing v j) registers) (bit j new) (bit j old))
 
 pub record PowerLost (t : Tables) (power : List ℕ) (o : Opening t power) : Type 0 where
-  -- whenever it happens, what is read back are bytes, and they open the station again
-  pub bytes-again : (calls : List Call) (performed : Bool) (r : ℕ) → getD (readBack t (leftBy t performed (worldAfter o calls))) r 0 < 256
+  -- whenever it happens, what is read back are numbers of their registers' widths, and they open the station again
+  pub numbers-again : (calls : List Call) (performed : Bool) (r : ℕ) → r < registerCount t
+      → getD (readBack t (leftBy t performed (worldAfter o calls))) r 0 < 2 ^ registerWidth t r
   pub opens-again : (calls : List Call) (performed : Bool) (lent : State) → isLong t lent ≡ true
       → opening sound t (readBack t (leftBy t performed (worldAfter o calls))) lent .answer ≡ Opened
   -- a plain variable that was settled reads as before: as its last finished value, or its first power-on bits

@@ -46,25 +46,25 @@ has-down x from zero = run-none x from
 has-down x from (suc n) = ap (λ (b : Bool). eqb x (from + n) || b) (has-down x from n) ∙ run-more x from n (eqb x (from + n)) refl
 
 -- a piece, by the words that say where it is: it has the numbers from its low bit to its high one, and none where it rises
-piece-ends : (x from r h l : ℕ) → from ≡ 32 * r + l → (leb from x && ltb x (32 * r + h + 1)) ≡ (leb from x && ltb x (from + (h + 1 - l)))
+piece-ends : (x from r h l : ℕ) → from ≡ 64 * r + l → (leb from x && ltb x (64 * r + h + 1)) ≡ (leb from x && ltb x (from + (h + 1 - l)))
 piece-ends x from r h l f = go (leb from x) refl
   where
-    here : from ≤ x → (b : Bool) → ltb x (32 * r + h + 1) ≡ b → b ≡ ltb x (from + (h + 1 - l))
+    here : from ≤ x → (b : Bool) → ltb x (64 * r + h + 1) ≡ b → b ≡ ltb x (from + (h + 1 - l))
     here le true e =
-        let lt = ltb-true x (32 * r + h + 1) e in
+        let lt = ltb-true x (64 * r + h + 1) e in
         sym (lt-ltb x (from + (h + 1 - l)) (omega arith))
     here le false e =
-        let past = ltb-false x (32 * r + h + 1) e in
+        let past = ltb-false x (64 * r + h + 1) e in
         sym (le-ltb x (from + (h + 1 - l)) (omega arith))
 
-    go : (b : Bool) → leb from x ≡ b → (b && ltb x (32 * r + h + 1)) ≡ (b && ltb x (from + (h + 1 - l)))
-    go true e = here (leb-true from x e) (ltb x (32 * r + h + 1)) refl
+    go : (b : Bool) → leb from x ≡ b → (b && ltb x (64 * r + h + 1)) ≡ (b && ltb x (from + (h + 1 - l)))
+    go true e = here (leb-true from x e) (ltb x (64 * r + h + 1)) refl
     go false e = refl
 
 pub piece-has : (vs : List ℕ) (piece x : ℕ) {r h l : ℕ} → r ≡ getD vs piece 0 → h ≡ getD vs (piece + 1) 0 → l ≡ getD vs (piece + 2) 0
-    → (leb (32 * r + l) x && ltb x (32 * r + h + 1)) ≡ has x (pieceBits (pieceIn vs piece))
+    → (leb (64 * r + l) x && ltb x (64 * r + h + 1)) ≡ has x (pieceBits (pieceIn vs piece))
 piece-has vs piece x {r} {h} {l} er eh el =
-    piece-ends x (32 * r + l) r h l refl ∙ sym (has-down x (32 * r + l) (h + 1 - l)) ∙ ap (has x) (piece-run vs piece er eh el)
+    piece-ends x (64 * r + l) r h l refl ∙ sym (has-down x (64 * r + l) (h + 1 - l)) ∙ ap (has x) (piece-run vs piece er eh el)
 
 -- how many bits a piece has, and how many of them stand behind one: as many as lie below it
 behind-down : (x from n : ℕ) → behind x (downFrom from n) ≡ cond (leb from x && ltb x (from + n)) (x - from) 0
@@ -95,19 +95,19 @@ pub piece-size : (vs : List ℕ) (piece : ℕ) {h l n : ℕ} → h ≡ getD vs (
     → Few (length (pieceBits (pieceIn vs piece))) n
 piece-size vs piece {h} {l} eh el lt e =
     record {
-      is = e ∙ sym (length-down (32 * getD vs piece 0 + l) (h + 1 - l)) ∙ ap length (piece-run vs piece refl eh el);
+      is = e ∙ sym (length-down (64 * getD vs piece 0 + l) (h + 1 - l)) ∙ ap length (piece-run vs piece refl eh el);
       small = omega arith;
     }
 
 pub piece-weight :
     (vs : List ℕ) (piece x : ℕ) {r l w : ℕ} {b : Bool} → r ≡ getD vs piece 0 → l ≡ getD vs (piece + 2) 0
-    → b ≡ has x (pieceBits (pieceIn vs piece)) → w ≡ cond b (x - (32 * r + l)) 0
+    → b ≡ has x (pieceBits (pieceIn vs piece)) → w ≡ cond b (x - (64 * r + l)) 0
     → w ≡ behind x (pieceBits (pieceIn vs piece))
 piece-weight vs piece x {r} {l} {w} {b} er el eb ew =
     let n : ℕ = getD vs (piece + 1) 0 + 1 - l in
-    let run : downFrom (32 * r + l) n ≡ pieceBits (pieceIn vs piece) = piece-run vs piece er refl el in
-    let test : b ≡ (leb (32 * r + l) x && ltb x (32 * r + l + n)) = eb ∙ ap (has x) (sym run) ∙ has-down x (32 * r + l) n in
-    ew ∙ ap (λ (t : Bool). cond t (x - (32 * r + l)) 0) test ∙ sym (behind-down x (32 * r + l) n) ∙ ap (behind x) run
+    let run : downFrom (64 * r + l) n ≡ pieceBits (pieceIn vs piece) = piece-run vs piece er refl el in
+    let test : b ≡ (leb (64 * r + l) x && ltb x (64 * r + l + n)) = eb ∙ ap (has x) (sym run) ∙ has-down x (64 * r + l) n in
+    ew ∙ ap (λ (t : Bool). cond t (x - (64 * r + l)) 0) test ∙ sym (behind-down x (64 * r + l) n) ∙ ap (behind x) run
 
 -- a piece, made of its words
 pub piece-made : (vs : List ℕ) (at : ℕ) {r h l : ℕ} → r ≡ getD vs at 0 → h ≡ getD vs (at + 1) 0 → l ≡ getD vs (at + 2) 0

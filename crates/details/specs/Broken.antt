@@ -6,6 +6,7 @@ use lib.Dec.{ltb}
 use Rattle.bits.specs.Bits.{bit}
 use Rattle.tables.specs.Every.{firstOf}
 use Rattle.tables.specs.Tables.{countOf, registerPartOf}
+use Rattle.bits.specs.Widths.{widest}
 use Rattle.tables.specs.declared.Part.{Part}
 use Rattle.tables.specs.View.{partNo}
 use Rattle.details.specs.declared.holders.Shared.{Shared}
@@ -16,15 +17,15 @@ use Rattle.details.specs.Rows.{holderOf}
 
 -- 14, 15: the first bit or register that variable v shares with an earlier one where it may not, or how many there can be
 abbrev pub most : Shared → ℕ
-most Bit = 2048
+most Bit = 4096
 most Register = 64
 
 unfoldable pub firstShared : List ℕ → ℕ → Part → Shared → ℕ
 firstShared vs v part shared = firstOf (most shared) (λ n. ltb (firstIn vs (Shares v part shared n)) v)
 
--- 16: bit b of a register's part is a dot that no variable maps; the first such bit, or 8
+-- 16: bit b of a register's part is a dot that no variable maps; the first such bit, or the greatest width
 abbrev pub bare : List ℕ → List ℕ → ℕ → Part → ℕ → Bool
 bare rs vs i part b = bit b (registerPartOf rs (partNo part) i .dots) && not (ltb (holderOf vs part i b) (countOf vs))
 
 unfoldable pub firstBare : List ℕ → List ℕ → ℕ → Part → ℕ
-firstBare rs vs i part = firstOf 8 (bare rs vs i part)
+firstBare rs vs i part = firstOf widest (bare rs vs i part)

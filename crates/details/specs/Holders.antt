@@ -1,4 +1,4 @@
--- Which variable holds a bit, or has one in a register. A bit's number is 32 * register + bit, as in `bitsOf`.
+-- Which variable holds a bit, or has one in a register. A bit's number is 64 * register + bit, as in `bitsOf`.
 use Prim.Native.Nat.{ℕ, _+_, _≤_, _^_}
 use mathlib.Core.Path.{_≡_}
 use mathlib.Core.Bool.{Bool, _&&_, _||_, cond}

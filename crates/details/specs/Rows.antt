@@ -5,6 +5,7 @@ use mathlib.Core.List.{List}
 use lib.Dec.{eqb}
 use Rattle.tables.specs.Every.{every, firstOf}
 use Rattle.tables.specs.Tables.{registerPart}
+use Rattle.bits.specs.Widths.{widest}
 use Rattle.tables.specs.declared.Part.{Part}
 use Rattle.tables.specs.declared.Part.the-variants.{Read, Write}
 use Rattle.details.specs.declared.search.Test.the-variants.{Holds}
@@ -14,11 +15,11 @@ use Rattle.details.specs.Search.{firstIn}
 
 -- the variable that holds bit b of register i, or their count
 abbrev pub holderOf : List ℕ → Part → ℕ → ℕ → ℕ
-holderOf vs part i b = firstIn vs (Holds part (32 * i + b))
+holderOf vs part i b = firstIn vs (Holds part (64 * i + b))
 
 -- the weight that it has in that variable
 abbrev pub weightOf : List ℕ → Part → ℕ → ℕ → ℕ
-weightOf vs part i b = weightIn vs part (32 * i + b) (holderOf vs part i b)
+weightOf vs part i b = weightIn vs part (64 * i + b) (holderOf vs part i b)
 
 -- bits a and b of a register belong together: one variable holds them, and in it they lie as far apart as here
 abbrev pub together : List ℕ → Part → ℕ → ℕ → ℕ → Bool
@@ -33,7 +34,7 @@ abbrev pub sameBit : List ℕ → ℕ → ℕ → Bool
 sameBit vs i b = eqb (holderOf vs Read i b) (holderOf vs Write i b) && eqb (weightOf vs Read i b) (weightOf vs Write i b)
 
 unfoldable pub sameHolders : List ℕ → ℕ → Bool
-sameHolders vs i = every 8 (sameBit vs i)
+sameHolders vs i = every widest (sameBit vs i)
 
 abbrev pub sameRegister : List ℕ → List ℕ → ℕ → Bool
 sameRegister rs vs i = alike rs (registerPart i 0) (registerPart i 1) 6 && sameHolders vs i

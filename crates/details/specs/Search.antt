@@ -6,6 +6,7 @@ use lib.Dec.{eqb, leb}
 use lib.ListN.{getD}
 use Rattle.bits.specs.Bits.{bit}
 use Rattle.tables.specs.Every.{firstOf}
+use Rattle.bits.specs.Widths.{widest}
 use Rattle.tables.specs.Tables.{countOf, rangeCount, rangeOf, RegisterPart, registerAt, registerPartOf, variablePartOf}
 use Rattle.tables.specs.Rules.{clashes, rangeFits, serves, tells}
 use Rattle.tables.specs.Scan.{overlap}
@@ -45,9 +46,9 @@ abbrev pub limit : List ℕ → Test → ℕ
 limit ps (Misfit i) = rangeCount ps i
 limit rs (Named place) = countOf rs
 limit rs (Clashes i part) = i
-limit rs (Tells i part j) = 8
-limit rs (CouldTell i part j) = 8
-limit rs (Undotted i part low high) = 8
+limit rs (Tells i part j) = widest
+limit rs (CouldTell i part j) = widest
+limit rs (Undotted i part low high) = widest
 limit vs (Overlaps v part k) = k
 limit vs (Holds part number) = countOf vs
 limit vs (Shares v part shared number) = v

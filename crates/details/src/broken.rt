@@ -14,7 +14,7 @@ fn most_of(shared: Shared) -> usize
     ensures { λ r. ⌜ r ≡ most shared ⌝ }
 {
     match shared {
-        Shared::Bit => 2048,
+        Shared::Bit => 4096,
         Shared::Register => 64,
     }
 }
@@ -43,12 +43,12 @@ fn is_bare(registers: &[u32], variables: &[u32], i: u32, part: Part, b: u32) -> 
     bits::bit_of(dots, b as usize) & !held
 }
 
-// Rule 16: the first such bit, or 8.
+// Rule 16: the first such bit, or 32.
 pub fn first_bare(registers: &[u32], variables: &[u32], i: u32, part: Part) -> u32
     ensures { λ r. ⌜ r ≡ firstBare (now (registers .entry)) (now (variables .entry)) i part ⌝ }
 {
     let mut b: u32 = 0;
-    while b < 8 {
+    while b < 32 {
         if is_bare(registers, variables, i, part, b) {
             return b;
         }

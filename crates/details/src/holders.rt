@@ -22,7 +22,7 @@ fn piece_holds(variables: &[u32], piece: usize, number: usize) -> bool
     let register = word(variables, piece);
     let high = word(variables, piece + 1);
     let low = word(variables, piece + 2);
-    (32 * register + low <= number) & (number < 32 * register + high + 1)
+    (64 * register + low <= number) & (number < 64 * register + high + 1)
 }
 
 // How far it is from one number to another, 0 where that is less.
@@ -50,7 +50,7 @@ fn piece_weight(variables: &[u32], piece: usize, number: usize) -> usize
     let register = word(variables, piece);
     let low = word(variables, piece + 2);
     let held = piece_holds(variables, piece, number);
-    choose(held, past(32 * register + low, number), 0)
+    choose(held, past(64 * register + low, number), 0)
 }
 
 // The weight of a bit in variable v.

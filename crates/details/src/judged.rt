@@ -15,8 +15,8 @@ pub fn judge_all(
     requires { ⌜ lentAs (now parameters) (now registers) (now variables) ≡ tablesOf beginning ⌝ }
     ensures { λ r. ⌜ stateOf r (now (parameters .exit)) (now (registers .exit)) (now (variables .exit)) ≡ judged (now (text .entry)) .made ⌝ }
 {
-    let mut reads = [0u8; 2048];
-    let mut writes = [0u8; 2048];
+    let mut reads = [0u8; 4096];
+    let mut writes = [0u8; 4096];
     let all = judge_text(
         text,
         parameters,

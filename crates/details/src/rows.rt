@@ -12,7 +12,7 @@ use tables::Part;
 pub fn holder_of(variables: &[u32], part: Part, i: u32, b: u32) -> u32
     ensures { λ r. ⌜ r ≡ holderOf (now (variables .entry)) part i b ⌝ }
 {
-    first_in(variables, Test::Holds(part, 32 * (i as usize) + b as usize))
+    first_in(variables, Test::Holds(part, 64 * (i as usize) + b as usize))
 }
 
 // The weight that it has in that variable.
@@ -20,7 +20,7 @@ pub fn weight_of(variables: &[u32], part: Part, i: u32, b: u32) -> usize
     ensures { λ r. ⌜ Weighs (weightOf (now (variables .entry)) part i b) r ⌝ }
 {
     let v = holder_of(variables, part, i, b);
-    weight_in(variables, part, 32 * (i as usize) + b as usize, v)
+    weight_in(variables, part, 64 * (i as usize) + b as usize, v)
 }
 
 // Does one variable hold both bits, as far apart in it as in the register?
@@ -64,7 +64,7 @@ fn same_holders(variables: &[u32], i: u32) -> bool
 {
     let mut ok = true;
     let mut b: u32 = 0;
-    while b < 8 {
+    while b < 32 {
         ok = ok & same_bit(variables, i, b);
         b += 1;
     }

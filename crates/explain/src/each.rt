@@ -4,11 +4,13 @@ use crate::parts::show_place;
 use crate::write::number;
 use crate::write::purpose;
 use crate::write::quoted;
+use crate::write::span;
 use crate::write::write;
 use details::entries::piece_count;
 use details::entries::piece_of;
 use details::entries::register_has;
 use details::entries::register_name;
+use details::entries::register_width;
 use details::holders::mentioned_before;
 use details::search::Test;
 use details::search::first_in;
@@ -22,6 +24,15 @@ pub enum Shown {
     Fault,
 }
 
+// The highest bit that a register has.
+fn top_bit(registers: &[u32], i: u32) -> usize {
+    span(1, register_width(registers, i))
+}
+
+fn is_whole(registers: &[u32], piece: Piece) -> bool {
+    (piece.high == top_bit(registers, narrow(piece.register))) & (piece.low == 0)
+}
+
 // high[3..0], or high where it is whole
 fn show_bits(text: &[u8], registers: &[u32], variables: &[u32], v: u32, part: Part, k: u32) {
     let piece = piece_of(variables, v, part, k);
@@ -29,7 +40,7 @@ fn show_bits(text: &[u8], registers: &[u32], variables: &[u32], v: u32, part: Pa
         write(b" # ");
     }
     write(register_name(text, registers, narrow(piece.register)));
-    if (piece.high == 7) & (piece.low == 0) {
+    if is_whole(registers, piece) {
         return;
     }
     write(b"[");
@@ -82,8 +93,8 @@ fn show_inside(text: &[u8], registers: &[u32], part: Part, piece: Piece) {
         return;
     }
     let b = first_in(registers, Test::Undotted(i, part, piece.low, piece.high));
-    if b < 8 {
-        show_bit(text, registers, 32 * (i as usize) + b as usize);
+    if (b as usize) < bits::WIDEST {
+        show_bit(text, registers, 64 * (i as usize) + b as usize);
         write(b" is no dot of its mask");
         purpose(part);
         write(b"\n");
@@ -100,9 +111,11 @@ fn show_shape(
     k: u32,
 ) -> bool {
     let piece = piece_of(variables, v, part, k);
-    if (7 < piece.high) | (7 < piece.low) {
+    let top = top_bit(registers, narrow(piece.register));
+    if (top < piece.high) | (top < piece.low) {
         show_piece(text, registers, piece);
-        write(b" goes past bit 7");
+        write(b" goes past bit ");
+        number(top);
     } else if piece.high < piece.low {
         show_piece(text, registers, piece);
         write(b" rises instead of going down");

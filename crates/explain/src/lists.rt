@@ -7,10 +7,13 @@ use crate::write::quoted;
 use crate::write::write;
 use details::broken::first_bare;
 use details::broken::first_shared;
+use details::entries::parameter_name;
 use details::entries::parameter_width;
+use details::entries::register_has;
 use details::entries::register_name;
 use details::entries::register_place;
 use details::entries::register_width;
+use details::entries::register_word;
 use details::entries::variable_has;
 use details::entries::variable_name;
 use details::entries::variable_part;
@@ -28,7 +31,7 @@ use tables::pieces::bit_count;
 fn show_taken(text: &[u8], registers: &[u32], variables: &[u32], part: Part) {
     let v = last(variables);
     let bit = first_shared(variables, v, part, Shared::Bit);
-    if bit < 2048 {
+    if bit < 4096 {
         let u = first_in(variables, Test::Shares(v, part, Shared::Bit, bit));
         show_bit(text, registers, bit);
         write(b" is mapped already by ");
@@ -64,8 +67,8 @@ fn show_puller(text: &[u8], variables: &[u32], v: u32, part: Part) {
 // 16: bit 0 of `r` is mapped by no variable for reading
 fn show_bare(text: &[u8], registers: &[u32], variables: &[u32], i: u32, part: Part) {
     let b = first_bare(registers, variables, i, part);
-    if b < 8 {
-        show_bit(text, registers, 32 * (i as usize) + b as usize);
+    if (b as usize) < bits::WIDEST {
+        show_bit(text, registers, 64 * (i as usize) + b as usize);
         write(b" is mapped by no variable");
         purpose(part);
         write(b"\n");
@@ -75,7 +78,40 @@ fn show_bare(text: &[u8], registers: &[u32], variables: &[u32], i: u32, part: Pa
 fn show_width(width: usize) {
     write(b"its width is ");
     number(width);
-    write(b", and only 8 is allowed\n");
+    write(b", and only 8, 16 and 32 are allowed\n");
+}
+
+fn port_of(registers: &[u32], i: u32, part: Part) -> u32 {
+    narrow(register_word(registers, i, part, 1))
+}
+
+// Has register i this part, at a port of another width?
+fn is_unlike(parameters: &[u32], registers: &[u32], i: u32, part: Part) -> bool {
+    let port = parameter_width(parameters, port_of(registers, i, part));
+    register_has(registers, i, part) & (port != register_width(registers, i))
+}
+
+// its width is 8, and that of its port `base` is 16
+fn show_unlike(text: &[u8], parameters: &[u32], registers: &[u32], i: u32, part: Part) {
+    let port = port_of(registers, i, part);
+    write(b"its width is ");
+    number(register_width(registers, i));
+    write(b", and that of its port ");
+    quoted(parameter_name(text, parameters, port));
+    write(b" is ");
+    number(parameter_width(parameters, port));
+    write(b"\n");
+}
+
+fn show_register(text: &[u8], parameters: &[u32], registers: &[u32], i: u32) {
+    let width = register_width(registers, i);
+    if !bits::is_width(width) {
+        show_width(width);
+    } else if is_unlike(parameters, registers, i, Part::Read) {
+        show_unlike(text, parameters, registers, i, Part::Read);
+    } else {
+        show_unlike(text, parameters, registers, i, Part::Write);
+    }
 }
 
 // its read part has 12 bits
@@ -98,13 +134,19 @@ fn show_type(variables: &[u32], v: u32) {
 }
 
 // 12: a variable, a register or a parameter, whichever is declared there.
-fn show_widths(parameters: &[u32], registers: &[u32], variables: &[u32], place: usize) {
+fn show_widths(
+    text: &[u8],
+    parameters: &[u32],
+    registers: &[u32],
+    variables: &[u32],
+    place: usize,
+) {
     let v = last(variables);
     let i = last(registers);
     if variable_place(variables, v) == place {
         show_type(variables, v);
     } else if register_place(registers, i) == place {
-        show_width(register_width(registers, i));
+        show_register(text, parameters, registers, i);
     } else {
         show_width(parameter_width(parameters, last(parameters)));
     }
@@ -135,7 +177,7 @@ pub fn show_lists(
     if rule == 11 {
         crate::pieces::show_pieces(text, parameters, registers, variables, place);
     } else if rule == 12 {
-        show_widths(parameters, registers, variables, place);
+        show_widths(text, parameters, registers, variables, place);
     } else if rule == 13 {
         crate::attributes::show_attributes(text, variables, place);
     } else {

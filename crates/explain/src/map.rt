@@ -1,4 +1,4 @@
-// The map of an accepted description: its parameters, a row of eight cells for each register, and its variables.
+// The map of an accepted description: its parameters, a row for each eight bits of a register, and its variables.
 use crate::parts::Entry;
 use crate::parts::show_offsets;
 use crate::parts::show_place;
@@ -10,6 +10,7 @@ use crate::write::quoted;
 use crate::write::write;
 use details::entries::count_of;
 use details::entries::parameter_name;
+use details::entries::parameter_width;
 use details::entries::register_has;
 use details::entries::register_name;
 use details::entries::same_place;
@@ -21,24 +22,31 @@ use rules::Judging;
 use rules::names::name_of;
 use tables::Part;
 
+// base        offsets 0..3, 16 bits: of a wider port than the usual one it is said how wide
 fn show_parameter(text: &[u8], parameters: &[u32], i: u32) {
+    let width = parameter_width(parameters, i);
     write(b"  ");
     column(parameter_name(text, parameters, i), 12);
     show_offsets(parameters, i);
+    if width != 8 {
+        write(b", ");
+        number(width);
+        write(b" bits");
+    }
     write(b"\n");
 }
 
-// One row serves both parts where they are alike.
+// The same rows serve both parts where they are alike.
 fn show_rows(text: &[u8], registers: &[u32], variables: &[u32], i: u32) {
     if same_register(registers, variables, i) {
-        show_row(text, registers, variables, i, Part::Read, b"  r w |");
+        show_row(text, registers, variables, i, Part::Read, b"r w");
         return;
     }
     if register_has(registers, i, Part::Read) {
-        show_row(text, registers, variables, i, Part::Read, b"  r   |");
+        show_row(text, registers, variables, i, Part::Read, b"r  ");
     }
     if register_has(registers, i, Part::Write) {
-        show_row(text, registers, variables, i, Part::Write, b"    w |");
+        show_row(text, registers, variables, i, Part::Write, b"  w");
     }
 }
 
@@ -141,8 +149,7 @@ pub fn show_map(
     write(name_of(text, judging.place, judging.extent));
     write(b"\n");
     show_entries(text, parameters, registers, variables, Entry::Parameter);
-    write(b"\nregisters  7          6          5          4");
-    write(b"          3          2          1          0\n");
+    write(b"\nregisters  7        6        5        4        3        2        1        0\n");
     show_entries(text, parameters, registers, variables, Entry::Register);
     if 0 < count_of(variables) {
         write(b"\nvariables\n");

@@ -71,7 +71,7 @@ pub fn show_place(text: &[u8], parameters: &[u32], registers: &[u32], i: u32, pa
 // bit 3 of `status`, by the bit's number
 pub fn show_bit(text: &[u8], registers: &[u32], bit: usize) {
     write(b"bit ");
-    number(bit % 32);
+    number(bit % 64);
     write(b" of ");
-    quoted(register_name(text, registers, narrow(bit / 32)));
+    quoted(register_name(text, registers, narrow(bit / 64)));
 }

@@ -95,9 +95,11 @@ fn show_offset(text: &[u8], parameters: &[u32], register: Register) {
     }
 }
 
-fn show_masks(masks: Masks) {
-    if masks.odd {
-        write(b"a mask has another number of elements than 8\n");
+fn show_masks(masks: Masks, width: u32) {
+    if masks.odd | (syntax::is_masked(masks) & (masks.extent != width as usize)) {
+        write(b"a mask has another number of elements than ");
+        number(width as usize);
+        write(b"\n");
     } else if 1 < masks.bare {
         write(b"two masks without `read` or `write`\n");
     } else {
@@ -112,7 +114,7 @@ fn show_pairing(register: Register) {
         write(b"of two ports, one is for `read` and the other for `write`\n");
     } else {
         let masks = register.masks;
-        show_masks(masks);
+        show_masks(masks, register.width);
     }
 }
 
@@ -129,7 +131,7 @@ fn show_wanted(text: &[u8], registers: &[u32], i: u32, one: bool) {
 // A bit that is fixed in one mask and `*` in the other would do.
 fn show_chance(text: &[u8], registers: &[u32], i: u32, part: Part, j: u32) {
     let b = first_in(registers, Test::CouldTell(i, part, j));
-    if b < 8 {
+    if (b as usize) < bits::WIDEST {
         write(b"; bit ");
         number(b as usize);
         write(b" would tell them apart if ");
@@ -144,7 +146,7 @@ fn show_chance(text: &[u8], registers: &[u32], i: u32, part: Part, j: u32) {
 // Write parts may share a place where a bit tells them apart; of read parts it is said that this does not help.
 fn show_apart(text: &[u8], registers: &[u32], i: u32, part: Part, j: u32) {
     let b = first_in(registers, Test::Tells(i, part, j));
-    if b < 8 {
+    if (b as usize) < bits::WIDEST {
         write(b"bit ");
         number(b as usize);
         write(b" tells their masks apart, but a place is shared for writing only\n");

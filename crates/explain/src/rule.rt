@@ -18,7 +18,7 @@ fn naming_rule(rule: u32) {
         7 => write(b"a name is declared before it is used, and of the right kind"),
         8 => write(b"an offset is a number of the parameter's set"),
         9 => write(
-            b"one port for both parts or one for each, and one mask of 8 elements for a part",
+            b"one port for both parts or one for each, and one mask for a part, of an element for each bit",
         ),
         _ => write(
             b"a parameter and an offset serve one register in each part, or for writing several that fixed bits tell apart",
@@ -32,7 +32,7 @@ fn bits_rule(rule: u32) {
             b"a bit list has up to 32 bits, each once, each a dot of a register with that part",
         ),
         12 => write(
-            b"parameters and registers have 8 bits; a type has as many as each of its parts",
+            b"parameters and registers have 8, 16 or 32 bits, alike; a type has as many as each part",
         ),
         13 => write(b"`volatile` and `trigger` stand once for a part, and the part is there"),
         14 => write(b"a bit serves one variable in each part"),

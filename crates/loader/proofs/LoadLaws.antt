@@ -52,7 +52,7 @@ starts ps rs vs b = rw (b .parameters, b .registers, b .variables)
 
 -- nothing is counted or marked yet
 ready-at : (p : Progress State) → None p → p .made .registers ≡ replicate 961 0 → p .made .variables ≡ replicate 7553 0
-    → Ready p (replicate 2048 0) (replicate 2048 0)
+    → Ready p (replicate 4096 0) (replicate 4096 0)
 unfolding every
 ready-at p none r v =
     let zero-registers : countOf (p .made .registers) ≡ 0 = ap countOf r in
@@ -82,7 +82,7 @@ module _ (text : List ℕ) (ps rs vs : List ℕ) (blank : Blank ps rs vs) where
     counted-none : None (progressOf headed qs rs vs)
     counted-none = subst None (sym from-start) (none-parameters text first (refl, refl))
 
-    pub ready-start : {reads writes : List ℕ} → reads ≡ replicate 2048 0 → writes ≡ replicate 2048 0 → Ready (progressOf headed qs rs vs) reads writes
+    pub ready-start : {reads writes : List ℕ} → reads ≡ replicate 4096 0 → writes ≡ replicate 4096 0 → Ready (progressOf headed qs rs vs) reads writes
     unfolding progressOf stateOf
     ready-start r w = rw (r, w) (ready-at (progressOf headed qs rs vs) counted-none (blank .registers) (blank .variables))
 

@@ -11,8 +11,9 @@ use lib.ListN.{getD}
 use borrow.Author.Tests.{eqb-true}
 use Rattle.syntax.specs.Parameter.{ParameterRead}
 use Rattle.syntax.specs.Variable.{VariableRead}
-use Rattle.tables.specs.Rules.{rangesFit, parameterFault, placeTaken, registerFault, partMaps, typeFits, volatileFits, ownFault, mappedBefore, triggerShared, variableFault}
-use Rattle.tables.specs.Tables.{countOf, parameterWidth, registerWidth, variablePartOf}
+use Rattle.bits.specs.Widths.{isWidth}
+use Rattle.tables.specs.Rules.{rangesFit, parameterFault, placeTaken, widthKept, registerFault, partMaps, typeFits, volatileFits, ownFault, mappedBefore, triggerShared, variableFault}
+use Rattle.tables.specs.Tables.{countOf, parameterWidth, variablePartOf}
 use Rattle.rules.specs.declared.fault.Fault.{Fault}
 use Rattle.rules.specs.Fault.{noFault, faultIf, only, isFault, orElse}
 use Rattle.rules.specs.State.{State, stopped, unlessBroken, withParameters, withRegisters, withVariables}
@@ -77,7 +78,7 @@ parameter-lowest text s d =
     let ps = appended 36 (s .parameters) (parameterEntry d) in
     let i = countOf (s .parameters) in
     let a = isDeclared text s (nameOf text (d .parameter .place) (d .parameter .length)) in
-    six-first a (d .parameter .place) s (addedParameter s d) ∙ parameter-order a (rangesFit ps i) (eqb (parameterWidth ps i) 8)
+    six-first a (d .parameter .place) s (addedParameter s d) ∙ parameter-order a (rangesFit ps i) (isWidth (parameterWidth ps i))
 
 -- ---- a register
 broken-number : (s : State) (before : Fault) (entered : State) → unlessBroken s before entered .fault .number ≡ cond (isFault before) (before .number) (entered .fault .number)
@@ -142,7 +143,7 @@ module _ (text : List ℕ) {parameters registers variables : ℕ} (s : State) (r
       (isMisplaced text s (r .second)) (not (isPaired r && masksKept r)) _ _ _ _ _ _
 
   -- 8 of the entry is never broken where 8 as written is not
-  placed-is : registerWritten text s r .number ≡ 0 → registerFault (s .parameters) rs i ≡ cond (placeTaken rs 0 i || placeTaken rs 1 i) 10 (cond (eqb (registerWidth rs i) 8) 0 12)
+  placed-is : registerWritten text s r .number ≡ 0 → registerFault (s .parameters) rs i ≡ cond (placeTaken rs 0 i || placeTaken rs 1 i) 10 (cond (widthKept (s .parameters) rs i) 0 12)
   unfolding registerFault
   placed-is none =
       rw (entry-placed text s r none (grown .so-far .parameters) (omega (arith, grown .parameters-counted)) (omega (arith, grown .registers-counted, grown .registers-long)))
@@ -157,7 +158,7 @@ module _ (text : List ℕ) {parameters registers variables : ℕ} (s : State) (r
       judged-register ∙ after-none (registerWritten text s r .number) _ _ placed-is
       ∙ rw written-is
       (register-order (isDeclared text s (nameOf text (r .place) (r .length))) (isUnknown text s (r .first) || (r .two && isUnknown text s (r .second)))
-      (isMisplaced text s (r .first) || (r .two && isMisplaced text s (r .second))) (not (isPaired r && masksKept r)) (placeTaken rs 0 i || placeTaken rs 1 i) (eqb (registerWidth rs i) 8))
+      (isMisplaced text s (r .first) || (r .two && isMisplaced text s (r .second))) (not (isPaired r && masksKept r)) (placeTaken rs 0 i || placeTaken rs 1 i) (widthKept (s .parameters) rs i))
 
 -- ---- a variable
 abbrev early : (a u w p : Bool) → ℕ

@@ -18,8 +18,9 @@ use Rattle.syntax.specs.Parameter.{ParameterRead}
 use Rattle.syntax.specs.Variable.{VariableRead}
 use Rattle.syntax.specs.Claim.{tokenNo, Right}
 use Rattle.syntax.specs.Text.{Declaration, aDevice, aParameter, aRegister, aVariable}
-use Rattle.tables.specs.Rules.{rangesFit, parameterFault, placed, placeTaken, registerFault, partMaps, typeFits, volatileFits, ownFault, mappedBefore, triggerShared, variableFault}
-use Rattle.tables.specs.Tables.{parameterWidth, registerPartOf, registerWidth, variablePartOf}
+use Rattle.bits.specs.Widths.{isWidth}
+use Rattle.tables.specs.Rules.{rangesFit, parameterFault, placed, placeTaken, widthKept, registerFault, partMaps, typeFits, volatileFits, ownFault, mappedBefore, triggerShared, variableFault}
+use Rattle.tables.specs.Tables.{parameterWidth, registerPartOf, variablePartOf}
 use Rattle.rules.specs.declared.fault.Fault.{Fault}
 use Rattle.rules.specs.Fault.{noFault, faultIf, only, isFault, orElse}
 use Rattle.rules.specs.State.{State, unlessStopped, unlessBroken, stopped, withParameters, withRegisters, withVariables}
@@ -108,7 +109,7 @@ module _ (text : List ℕ) where
 
   parameter-number : (ps : List ℕ) (i : ℕ) → ruled (parameterFault ps i) ≡ true
   unfolding parameterFault
-  parameter-number ps i = cond-ruled (rangesFit ps i) _ 8 (cond-ruled (eqb (parameterWidth ps i) 8) 0 12 (given 0 refl) (given 12 refl)) (given 8 refl)
+  parameter-number ps i = cond-ruled (rangesFit ps i) _ 8 (cond-ruled (isWidth (parameterWidth ps i)) 0 12 (given 0 refl) (given 12 refl)) (given 8 refl)
 
   parameter-ruled : (s : State) (d : ParameterRead) → ruled (judgeParameter text s d .fault .number) ≡ true
   unfolding judgeParameter addedParameter withParameters
@@ -118,7 +119,7 @@ module _ (text : List ℕ) where
   unfolding registerFault
   register-number ps rs i =
       cond-ruled (placed ps (registerPartOf rs 0 i) && placed ps (registerPartOf rs 1 i)) _ 8
-      (cond-ruled (placeTaken rs 0 i || placeTaken rs 1 i) 10 _ (given 10 refl) (cond-ruled (eqb (registerWidth rs i) 8) 0 12 (given 0 refl) (given 12 refl))) (given 8 refl)
+      (cond-ruled (placeTaken rs 0 i || placeTaken rs 1 i) 10 _ (given 10 refl) (cond-ruled (widthKept ps rs i) 0 12 (given 0 refl) (given 12 refl))) (given 8 refl)
 
   written-ruled : (s : State) (d : Register) → ruled (registerWritten text s d .number) ≡ true
   unfolding registerWritten unknownPort badOffset

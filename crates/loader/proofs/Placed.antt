@@ -12,8 +12,8 @@ use borrow.Author.Tests.{leb-true, leb-false, lt-leb, ltb-true, not-false}
 use Rattle.syntax.specs.declared.register.Port.{Port}
 use Rattle.syntax.specs.declared.register.Register.{Register}
 use Rattle.tables.specs.Every.{every, some}
-use Rattle.tables.specs.Tables.{countOf, registerPart, registerPartIn, rangeCount, rangeOf}
-use Rattle.tables.specs.Rules.{rangeFits, rangesFit, rangeHolds, offsetIn, placed, masksFit, parameterShape, parameterFault, registerPartShape, registerShape}
+use Rattle.tables.specs.Tables.{countOf, registerPart, registerPartIn, registerWidth, rangeCount, rangeOf}
+use Rattle.tables.specs.Rules.{rangeFits, rangesFit, rangeHolds, offsetIn, placed, masksFit, parameterShape, parameterFault, registerPartShape}
 use Rattle.tables.specs.Sound.{parameterGood}
 use Rattle.tables.proofs.Laws.{every-at}
 use Rattle.rules.specs.declared.mask.Mask.{Mask}
@@ -72,19 +72,19 @@ offset-few ps i offset good h = go (leb offset 255) refl
         ∙ h))
 
 -- ---- a part of the table, by its three first words
-part-placed : (ps t : List ℕ) (at index offset : ℕ) (b : Bool) → every (countOf ps) (parameterGood ps) ≡ true → countOf ps ≤ 16 → registerPartShape ps t at ≡ true
+part-placed : (ps t : List ℕ) (wide at index offset : ℕ) (b : Bool) → every (countOf ps) (parameterGood ps) ≡ true → countOf ps ≤ 16 → registerPartShape ps t wide at ≡ true
     → getD t (at + 0) 0 ≡ cond b 1 0 → (b ≡ true → (getD t (at + 1) 0 ≡ wordOf index) × (getD t (at + 2) 0 ≡ wordOf offset)) → offsetIn ps index offset ≡ true
     → placed ps (registerPartIn t at) ≡ true
 unfolding placed registerPartShape
-part-placed ps t at index offset false good few shape f w h =
+part-placed ps t wide at index offset false good few shape f w h =
     let e : at ≡ at + 0 = omega arith in
     let p : getD t at 0 ≡ 0 = ap (λ (i : ℕ). getD t i 0) e ∙ f in
     rw p
-part-placed ps t at index offset true good few shape f w h =
+part-placed ps t wide at index offset true good few shape f w h =
     let e : at ≡ at + 0 = omega arith in
     let p : getD t at 0 ≡ 1 = ap (λ (i : ℕ). getD t i 0) e ∙ f in
     let words = w refl in
-    let there : (ltb (wordOf index) (countOf ps) && masksFit (registerPartIn t at)) ≡ true = sym (rw (p, ← words .0)) ∙ shape in
+    let there : (ltb (wordOf index) (countOf ps) && masksFit wide (registerPartIn t at)) ≡ true = sym (rw (p, ← words .0)) ∙ shape in
     let below = ltb-true (wordOf index) (countOf ps) (and-left (ltb (wordOf index) (countOf ps)) _ there) in
     let i : wordOf index ≡ index = word-is index (countOf ps) (omega arith) below in
     let few-offset = offset-few ps index offset (every-at (countOf ps) (parameterGood ps) good index (omega arith)) h in
@@ -148,13 +148,6 @@ module _ (text : List ℕ) (s : State) (r : Register) (none : registerWritten te
         ap (λ (i : ℕ). getD table i 0) e
         ∙ appended-word 15 (s .registers) (registerEntry text ps r) (omega (arith, R.entry-long text s r none)) (3 + 6 * p + k) (omega (arith, R.entry-long text s r none))
 
-    shapes : (registerPartShape ps table (registerPart n 0) ≡ true) × (registerPartShape ps table (registerPart n 1) ≡ true)
-    unfolding registerShape
-    shapes =
-        let all = R.register-shape text s r none fits few in
-        let both = and-left (registerPartShape ps table (registerPart n 0) && registerPartShape ps table (registerPart n 1)) _ all in
-        (and-left (registerPartShape ps table (registerPart n 0)) _ both, and-right (registerPartShape ps table (registerPart n 0)) _ both)
-
     pub entry-placed : (placed ps (registerPartIn table (registerPart n 0)) && placed ps (registerPartIn table (registerPart n 1))) ≡ true
     unfolding registerEntry partWords
     entry-placed =
@@ -162,8 +155,8 @@ module _ (text : List ℕ) (s : State) (r : Register) (none : registerWritten te
         let w1 : (k : ℕ) → k < 6 → getD table (registerPart n 1 + k) 0 ≡ getD (registerEntry text ps r) (3 + 6 * 1 + k) 0 = λ k. word 1 k (ltb-true 1 2 refl) in
         let a = read-words (wordOf (r .place)) (wordOf (r .length)) (r .width) _ _ _ _ _ _ (hasPart r 2) (hasPart r 1) in
         let b = write-words (wordOf (r .place)) (wordOf (r .length)) (r .width) _ _ _ _ _ _ (hasPart r 2) (hasPart r 1) in
-        let read = part-placed ps table (registerPart n 0) _ _ (hasPart r 2) good few (shapes .0) (w0 0 (ltb-true 0 6 refl) ∙ a .0)
+        let read = part-placed ps table (registerWidth table n) (registerPart n 0) _ _ (hasPart r 2) good few (R.read-shape text s r none fits few .0) (w0 0 (ltb-true 0 6 refl) ∙ a .0)
         (λ e. (w0 1 (ltb-true 1 6 refl) ∙ a .1 e .0, w0 2 (ltb-true 2 6 refl) ∙ a .1 e .1)) (port-offset 1) in
-        let write = part-placed ps table (registerPart n 1) _ _ (hasPart r 1) good few (shapes .1) (w1 0 (ltb-true 0 6 refl) ∙ b .0)
+        let write = part-placed ps table (registerWidth table n) (registerPart n 1) _ _ (hasPart r 1) good few (R.write-shape text s r none fits few .0) (w1 0 (ltb-true 0 6 refl) ∙ b .0)
         (λ e. (w1 1 (ltb-true 1 6 refl) ∙ b .1 e .0, w1 2 (ltb-true 2 6 refl) ∙ b .1 e .1)) (port-offset 2) in
         rw (read, write)

@@ -8,8 +8,9 @@ use Rattle.syntax.specs.declared.register.Port.{Port}
 use Rattle.syntax.specs.declared.register.Register.{Register}
 use Rattle.syntax.specs.Parameter.{ParameterRead}
 use Rattle.syntax.specs.Variable.{VariableRead}
-use Rattle.tables.specs.Tables.{countOf, parameterWidth, registerWidth, variablePartOf}
-use Rattle.tables.specs.Rules.{rangesFit, offsetIn, placeTaken, partMaps, typeFits, volatileFits, mappedBefore, triggerShared}
+use Rattle.tables.specs.Tables.{countOf, parameterWidth, variablePartOf}
+use Rattle.bits.specs.Widths.{isWidth}
+use Rattle.tables.specs.Rules.{rangesFit, offsetIn, placeTaken, widthKept, partMaps, typeFits, volatileFits, mappedBefore, triggerShared}
 use Rattle.rules.specs.Fault.{isFault}
 use Rattle.rules.specs.State.{State}
 use Rattle.rules.specs.Names.{nameOf, isNothing, indexOf, isDeclared}
@@ -40,7 +41,7 @@ module _ (text : List ℕ) (s : State) where
       let i : ℕ = countOf (s .parameters) in
       rule (isDeclared text s (nameOf text (d .parameter .place) (d .parameter .length))) 6 ∷
       rule (not (rangesFit ps i)) 8 ∷
-      rule (not (eqb (parameterWidth ps i) 8)) 12 ∷ []
+      rule (not (isWidth (parameterWidth ps i))) 12 ∷ []
 
   -- a port's name is no parameter's; its offset is bad, or not in the parameter's set
   unfoldable pub isUnknown : Port → Bool
@@ -59,7 +60,7 @@ module _ (text : List ℕ) (s : State) where
       rule (isMisplaced (r .first) || (r .two && isMisplaced (r .second))) 8 ∷
       rule (not (isPaired r && masksKept r)) 9 ∷
       rule (placeTaken rs 0 i || placeTaken rs 1 i) 10 ∷
-      rule (not (eqb (registerWidth rs i) 8)) 12 ∷ []
+      rule (not (widthKept (s .parameters) rs i)) 12 ∷ []
 
   -- a variable; `vs` are the variables with its entry, number `v`
   unfoldable pub variableRules : VariableRead → List Rule

@@ -98,8 +98,8 @@ pub fn judge_text(
     writes: &mut [u8],
 ) -> Loading
     requires { ⌜ lentAs (now parameters) (now registers) (now variables) ≡ tablesOf beginning ⌝ }
-    requires { ⌜ now reads ≡ replicate 2048 0 ⌝ }
-    requires { ⌜ now writes ≡ replicate 2048 0 ⌝ }
+    requires { ⌜ now reads ≡ replicate 4096 0 ⌝ }
+    requires { ⌜ now writes ≡ replicate 4096 0 ⌝ }
     ensures read { λ r. ⌜ progressOf r (now (parameters .exit)) (now (registers .exit)) (now (variables .exit)) ≡ judged (now (text .entry)) ⌝ }
     ensures ready { λ r. ⌜ Ready (progressOf r (now (parameters .exit)) (now (registers .exit)) (now (variables .exit))) (now (reads .exit)) (now (writes .exit)) ⌝ }
 {
@@ -133,8 +133,8 @@ fn verdict_on(
     ensures answered { λ r. ⌜ r ≡ verdictOf (judged (now (text .entry))) ⌝ }
     ensures left { λ _. ⌜ lentAs (now (parameters .exit)) (now (registers .exit)) (now (variables .exit)) ≡ tablesOf (judged (now (text .entry)) .made) ⌝ }
 {
-    let mut reads = [0u8; 2048];
-    let mut writes = [0u8; 2048];
+    let mut reads = [0u8; 4096];
+    let mut writes = [0u8; 4096];
     let all = judge_text(
         text,
         parameters,

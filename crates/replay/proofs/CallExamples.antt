@@ -19,14 +19,14 @@ asked line = callOf (wordsOf line)
 
 pub lines :
     map asked
-    (bytes "open 0x0A 255"
+    (bytes "open 0x0A 4294967295"
     ∷ bytes "  write\t0  -2 "
     ∷ bytes "hold read 1 0 0xFF"
     ∷ bytes "lend marks all"
     ∷ bytes "lookup"
     ∷ bytes "; a comment"
     ∷ bytes "read 0 0"
-    ∷ bytes "confirm 256"
+    ∷ bytes "confirm 4294967296"
     ∷ [])
     ≡ Station (Open 2)
     ∷ Station (Write 0 (negsuc 1))

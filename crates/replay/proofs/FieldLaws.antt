@@ -14,7 +14,7 @@ use Rattle.script.proofs.WordLaws.{words-first, rest-shorter}
 use Rattle.script.specs.declared.numbers.Number.{Number}
 use Rattle.script.specs.declared.numbers.Number.the-variants.{Is, Nothing}
 use Rattle.script.specs.declared.numbers.Value.the-variants as value
-use Rattle.replay.specs.Fields.{isNone, onlyWord, belowOf, isSome, countFrom, orZero, byteOf, stored, laid}
+use Rattle.replay.specs.Fields.{isNone, onlyWord, belowOf, isSome, carriedOf, countFrom, orZero, lentNumber, stored, laid}
 
 pub no-number : numberOf [] ≡ Nothing
 unfolding numberOf figures begins
@@ -74,7 +74,7 @@ unfolding orZero
 below-small limit n (Is b) some e = below-less limit n b (sym e)
 below-small limit n Nothing some e = some
 
--- ── the bytes of an opening, word by word ──
+-- ── the numbers of an opening, word by word ──
 
 module _ (line first : List ℕ) (is-first : first ≡ wordOf line) where
   pub count-end : (n : ℕ) → length first ≡ 0 → countFrom (wordsOf line) n ≡ Is n
@@ -102,17 +102,17 @@ module _ (line first : List ℕ) (is-first : first ≡ wordOf line) where
         go [] h = absurd (h refl)
         go (x ∷ word) h = refl
 
-    pub count-stops : (n : ℕ) → belowOf 256 (numberOf first) ≡ Nothing → countFrom (wordsOf line) n ≡ Nothing
+    pub count-stops : (n : ℕ) → carriedOf first ≡ Nothing → countFrom (wordsOf line) n ≡ Nothing
     unfolding countFrom isSome
     count-stops n none = rw (words-more (restOf line) refl, countFrom, none)
 
     module _ (tail : List ℕ) (is-rest : tail ≡ restOf line) where
-      pub count-on : (n b : ℕ) → belowOf 256 (numberOf first) ≡ Is b → countFrom (wordsOf line) n ≡ countFrom (wordsOf tail) (n + 1)
+      pub count-on : (n b : ℕ) → carriedOf first ≡ Is b → countFrom (wordsOf line) n ≡ countFrom (wordsOf tail) (n + 1)
       unfolding countFrom isSome
       count-on n b a-byte = rw (words-more tail is-rest, countFrom, a-byte)
 
       pub laid-on :
-          (at : ℕ) (bytes : List ℕ) (b : ℕ) (after : List ℕ) → b ≡ byteOf first → after ≡ stored bytes at b
+          (at : ℕ) (bytes : List ℕ) (b : ℕ) (after : List ℕ) → b ≡ lentNumber first → after ≡ stored bytes at b
           → laid (wordsOf line) at bytes ≡ laid (wordsOf tail) (at + 1) after
       unfolding laid
       laid-on at bytes b after is-byte is-after = rw (words-more tail is-rest, laid, is-after, is-byte)

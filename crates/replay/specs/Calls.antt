@@ -16,7 +16,7 @@ use Rattle.replay.specs.declared.call.Request.{Request}
 use Rattle.replay.specs.declared.call.Request.the-variants.{Open, Read, Write, Confirm, Abandon}
 use Rattle.replay.specs.declared.call.Call.{Call}
 use Rattle.replay.specs.declared.call.Call.the-variants.{Nothing, Station, Lookup, State, LendRecord, LendMarks, Hold, Unknown}
-use Rattle.replay.specs.Fields.{isNone, onlyWord, belowOf, countFrom}
+use Rattle.replay.specs.Fields.{isNone, onlyWord, belowOf, carriedOf, countFrom}
 
 -- the call of the first test that holds
 unfoldable pub chosen : List (Bool × Call) → Call
@@ -27,7 +27,7 @@ chosen (entry ∷ more) = cond (entry .0) (entry .1) (chosen more)
 unfoldable pub bareOf : List (List ℕ) → Call → Call
 bareOf words call = cond (isNone words) call Unknown
 
--- a call of the station that needs a number: `open B0 B1 ..` how many bytes, `read V` the variable, `confirm B` the byte
+-- a call of the station that needs a number: `open N0 N1 ..` how many, `read V` the variable, `confirm N` what was read
 unfoldable pub withNumber : Number → (ℕ → Request) → Call
 withNumber (number.Is n) request = Station (request n)
 withNumber number.Nothing request = Unknown
@@ -97,7 +97,7 @@ abbrev pub operations : List ℕ → List (List ℕ) → List (Bool × Call)
 operations verb words =
     (same verb (bytes "read"), withNumber (numberOf (onlyWord words)) Read)
     ∷ (same verb (bytes "write"), writeOf words)
-    ∷ (same verb (bytes "confirm"), withNumber (belowOf 256 (numberOf (onlyWord words))) Confirm)
+    ∷ (same verb (bytes "confirm"), withNumber (carriedOf (onlyWord words)) Confirm)
     ∷ (same verb (bytes "abandon"), bareOf words (Station Abandon))
     ∷ []
 

@@ -1,6 +1,7 @@
 // What a line of a script asks for.
 use crate::fields::below;
-use crate::fields::count_bytes;
+use crate::fields::carried;
+use crate::fields::count_numbers;
 use crate::fields::is_bare;
 use crate::fields::only_word;
 use crate::fields::or_zero;
@@ -17,12 +18,12 @@ ghost use Prim.Native.Nat.{ℕ};
 ghost use Rattle.script.specs.Words.{wordsOf};
 ghost use Rattle.replay.specs.Calls.{bareOf, withNumber, lookupOf, writing, writeOf, operations, amountOf, lent, lendOf, inHand, held, heldOf, holding, holdOf, chosen, callBy, isSkipped, callOf};
 
-// A call of the station. An opening has so many power-on bytes.
+// A call of the station. An opening has so many power-on numbers.
 pub enum Request {
     Open(usize),
     Read(usize),
     Write(usize, i64),
-    Confirm(u8),
+    Confirm(u32),
     Abandon,
 }
 
@@ -98,9 +99,9 @@ fn operation_of(verb: &[u8], tail: &[u8]) -> Call
         return write_of(tail);
     }
     if is(verb, b"confirm") {
-        let byte = below(256, number_of(only_word(tail)));
-        let b = or_zero(byte) as u8;
-        return with_number(byte, Request::Confirm(b));
+        let number = carried(only_word(tail));
+        let n = or_zero(number) as u32;
+        return with_number(number, Request::Confirm(n));
     }
     if is(verb, b"abandon") {
         return bare(tail, Call::Station(Request::Abandon));
@@ -210,7 +211,7 @@ fn call_by(verb: &[u8], tail: &[u8]) -> Call
     ensures { λ r. ⌜ r ≡ callBy (now (verb .entry)) (wordsOf (now (tail .entry))) ⌝ }
 {
     if is(verb, b"open") {
-        let count = count_bytes(tail);
+        let count = count_numbers(tail);
         return with_number(count, Request::Open(or_zero(count)));
     }
     if is(verb, b"lookup") {

@@ -5,7 +5,7 @@ use script::rest;
 use script::word;
 ghost use mathlib.Core.Path.{_≡_};
 ghost use Rattle.script.specs.Words.{wordsOf};
-ghost use Rattle.replay.specs.Fields.{isNone, onlyWord, belowOf, countFrom, orZero, byteOf, laid, powerOn, stored};
+ghost use Rattle.replay.specs.Fields.{isNone, onlyWord, belowOf, carriedOf, countFrom, orZero, lentNumber, laid, powerOn, stored};
 
 pub fn is_bare(tail: &[u8]) -> bool
     ensures { λ r. ⌜ r ≡ isNone (wordsOf (now (tail .entry))) ⌝ }
@@ -41,8 +41,15 @@ pub fn below(limit: u64, number: Number) -> Number
     }
 }
 
-// How many bytes the words are, if each is one.
-pub fn count_bytes(tail: &[u8]) -> Number
+// The number for a register that a word is: one of at most 32 bits.
+pub fn carried(word: &[u8]) -> Number
+    ensures { λ r. ⌜ r ≡ carriedOf (now (word .entry)) ⌝ }
+{
+    below(4294967296, number_of(word))
+}
+
+// How many numbers for registers the words are, if each is one.
+pub fn count_numbers(tail: &[u8]) -> Number
     ensures { λ r. ⌜ r ≡ countFrom (wordsOf (now (tail .entry))) 0 ⌝ }
 {
     let mut more = tail;
@@ -52,8 +59,8 @@ pub fn count_bytes(tail: &[u8]) -> Number
         if next.len() == 0 {
             return Number::Is(count as u64);
         }
-        let byte = below(256, number_of(next));
-        let Number::Is(_) = byte else {
+        let number = carried(next);
+        let Number::Is(_) = number else {
             return Number::Nothing;
         };
         count += 1;
@@ -72,26 +79,26 @@ pub fn or_zero(number: Number) -> usize
     }
 }
 
-// The byte that a word is, and 0 where it is none.
-fn byte_of(byte: &[u8]) -> u8
-    ensures { λ r. ⌜ r ≡ byteOf (now (byte .entry)) ⌝ }
+// The number for a register that a word is, and 0 where it is none.
+fn lent_number(word: &[u8]) -> u32
+    ensures { λ r. ⌜ r ≡ lentNumber (now (word .entry)) ⌝ }
 {
-    let number = below(256, number_of(byte));
-    or_zero(number) as u8
+    let number = carried(word);
+    or_zero(number) as u32
 }
 
 // Stores nothing past the end.
-fn put(bytes: &mut [u8], at: usize, b: u8)
-    ensures { λ _. ⌜ now (bytes .exit) ≡ stored (now (bytes .entry)) at b ⌝ }
+fn put(numbers: &mut [u32], at: usize, n: u32)
+    ensures { λ _. ⌜ now (numbers .exit) ≡ stored (now (numbers .entry)) at n ⌝ }
 {
-    if at < bytes.len() {
-        bytes[at] = b;
+    if at < numbers.len() {
+        numbers[at] = n;
     }
 }
 
-// The bytes that the words are go to the front of `bytes`, as many as it takes.
-fn lay(tail: &[u8], bytes: &mut [u8])
-    ensures { λ _. ⌜ now (bytes .exit) ≡ laid (wordsOf (now (tail .entry))) 0 (now (bytes .entry)) ⌝ }
+// The numbers that the words are go to the front of `numbers`, as many as it takes.
+fn lay(tail: &[u8], numbers: &mut [u32])
+    ensures { λ _. ⌜ now (numbers .exit) ≡ laid (wordsOf (now (tail .entry))) 0 (now (numbers .entry)) ⌝ }
 {
     let mut more = tail;
     let mut at: usize = 0;
@@ -100,19 +107,19 @@ fn lay(tail: &[u8], bytes: &mut [u8])
         if next.len() == 0 {
             return;
         }
-        let b = byte_of(next);
-        put(bytes, at, b);
+        let n = lent_number(next);
+        put(numbers, at, n);
         at += 1;
         let after = rest(more);
         more = after;
     }
 }
 
-// The power-on bytes of an opening. No table has more registers than this has bytes.
-pub fn power_on(tail: &[u8]) -> [u8; 64]
+// The power-on numbers of an opening. No table has more registers than this has numbers.
+pub fn power_on(tail: &[u8]) -> [u32; 64]
     ensures { λ r. ⌜ r ≡ powerOn (wordsOf (now (tail .entry))) ⌝ }
 {
-    let mut power = [0u8; 64];
+    let mut power = [0u32; 64];
     lay(tail, &mut power);
     power
 }

@@ -27,7 +27,7 @@ fn hear(
     parameters: &[u32],
     registers: &[u32],
     variables: &[u32],
-    kept: &mut [u8],
+    kept: &mut [u32],
     marks: &mut [u8],
     session: Session,
 ) -> Session {
@@ -43,7 +43,7 @@ fn hear(
     );
     let after = turn.session;
     let reply = turn.reply;
-    show::reply(reply, registers, variables, kept, marks, after);
+    show::reply(reply, parameters, registers, variables, kept, marks, after);
     after
 }
 
@@ -55,7 +55,7 @@ fn run_calls(
     parameters: &[u32],
     registers: &[u32],
     variables: &[u32],
-    kept: &mut [u8],
+    kept: &mut [u32],
     marks: &mut [u8],
 ) -> usize
     ensures { λ r. ⌜ from ≤ r ⌝ }
@@ -98,7 +98,7 @@ fn run_script(
     parameters: &mut [u32],
     registers: &mut [u32],
     variables: &mut [u32],
-    kept: &mut [u8],
+    kept: &mut [u32],
     marks: &mut [u8],
 ) -> usize
     ensures { λ r. ⌜ from ≤ r ⌝ }
@@ -127,7 +127,7 @@ fn run(
     parameters: &mut [u32],
     registers: &mut [u32],
     variables: &mut [u32],
-    kept: &mut [u8],
+    kept: &mut [u32],
     marks: &mut [u8],
 ) {
     let mut at = 0;
@@ -160,7 +160,7 @@ fn main() {
     let mut parameters = [0u32; 577];
     let mut registers = [0u32; 961];
     let mut variables = [0u32; 7553];
-    let mut kept = [0u8; 64];
+    let mut kept = [0u32; 64];
     let mut marks = [0u8; 128];
     run(
         &buffer[..n],

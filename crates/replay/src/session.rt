@@ -112,7 +112,7 @@ fn is_opened(answer: Answer) -> bool
 }
 
 // The first bytes, as many as there are of that count.
-fn front(bytes: &[u8], count: usize) -> &[u8]
+fn front(bytes: &[u32], count: usize) -> &[u32]
     ensures { λ r. ⌜ now r ≡ take (min count (length (now (bytes .entry)))) (now (bytes .entry)) ⌝ }
 {
     let end = least(count, bytes.len());
@@ -122,11 +122,11 @@ fn front(bytes: &[u8], count: usize) -> &[u8]
 // The five calls.
 fn outcome_of(
     request: Request,
-    power: &[u8],
+    power: &[u32],
     parameters: &[u32],
     registers: &[u32],
     variables: &[u32],
-    held: &mut [u8],
+    held: &mut [u32],
     marks: &mut [u8],
     in_hand: Operation,
 ) -> Outcome
@@ -183,7 +183,7 @@ fn ask(
     parameters: &[u32],
     registers: &[u32],
     variables: &[u32],
-    kept: &mut [u8],
+    kept: &mut [u32],
     marks: &mut [u8],
     session: Session,
 ) -> Turn
@@ -258,7 +258,7 @@ fn perform(
     parameters: &[u32],
     registers: &[u32],
     variables: &[u32],
-    kept: &mut [u8],
+    kept: &mut [u32],
     marks: &mut [u8],
     session: Session,
 ) -> Turn
@@ -296,7 +296,7 @@ pub fn answer(
     parameters: &[u32],
     registers: &[u32],
     variables: &[u32],
-    kept: &mut [u8],
+    kept: &mut [u32],
     marks: &mut [u8],
     session: Session,
 ) -> Turn

@@ -24,13 +24,44 @@ fn number_after(words: &[u8], number: usize) {
     io::print_decimal(1, number as u64);
 }
 
-// A byte as two hexadecimal digits, in upper case.
-fn hex_after(words: &[u8], b: u8) {
-    say(words);
-    let high = b / 16;
-    let low = b % 16;
-    let pair = [FIGURES[high as usize], FIGURES[low as usize]];
+// The last eight bits of a number as two hexadecimal digits, in upper case.
+fn two_digits(number: usize) {
+    let high = number / 16 % 16;
+    let low = number % 16;
+    let pair = [FIGURES[high], FIGURES[low]];
     say(&pair);
+}
+
+// A number of a register as hexadecimal digits: two for every eight bits of its width.
+fn hex_after(words: &[u8], number: u32, width: usize) {
+    say(words);
+    let number = number as usize;
+    if 16 < width {
+        two_digits(number / 16777216);
+        two_digits(number / 65536);
+    }
+    if 8 < width {
+        two_digits(number / 256);
+    }
+    two_digits(number);
+}
+
+// The width of a parameter, which its registers have too. There are at most 16.
+fn port_width(parameters: &[u32], parameter: usize) -> usize {
+    if parameter < 16 {
+        word(parameters, 36 * parameter + 1 + 2)
+    } else {
+        0
+    }
+}
+
+// The width of a register. There are at most 64.
+fn register_width(registers: &[u32], register: usize) -> usize {
+    if register < 64 {
+        word(registers, 15 * register + 1 + 2)
+    } else {
+        0
+    }
 }
 
 // How far below zero a value is, less one: k of -(k + 1).
@@ -52,7 +83,7 @@ fn value_after(words: &[u8], value: i64) {
     }
 }
 
-fn access(offered: Access) {
+fn access(offered: Access, parameters: &[u32]) {
     let direction = offered.direction;
     match direction {
         tables::Part::Read => say(b"offer read "),
@@ -60,12 +91,13 @@ fn access(offered: Access) {
     }
     number_after(b"", offered.parameter);
     number_after(b" ", offered.offset);
-    hex_after(b" 0x", offered.byte);
+    let width = port_width(parameters, offered.parameter);
+    hex_after(b" 0x", offered.byte, width);
 }
 
-fn answer(given: Answer) {
+fn answer(given: Answer, parameters: &[u32]) {
     match given {
-        Answer::Offer(offered) => access(offered),
+        Answer::Offer(offered) => access(offered, parameters),
         Answer::Done { value, accesses } => {
             value_after(b"done ", value);
             number_after(b" ", accesses);
@@ -111,36 +143,35 @@ fn operation(held: Operation) {
     }
 }
 
-// How a byte is written.
-enum Digits {
-    Hex,
-    Decimal,
-}
-
-fn byte_after(words: &[u8], b: u8, digits: Digits) {
-    match digits {
-        Digits::Hex => hex_after(words, b),
-        Digits::Decimal => number_after(words, b as usize),
+fn numbers_of(list: &[u32], registers: &[u32]) {
+    let mut i = 0;
+    while i < list.len() {
+        hex_after(b" ", list[i], register_width(registers, i));
+        i += 1;
     }
 }
 
-fn bytes(list: &[u8], digits: Digits) {
+fn mark_after(words: &[u8], mark: u8) {
+    number_after(words, mark as usize);
+}
+
+fn marks_of(list: &[u8]) {
     let mut i = 0;
     while i < list.len() {
-        byte_after(b" ", list[i], digits);
+        mark_after(b" ", list[i]);
         i += 1;
     }
 }
 
 // All of the record and the marks, whatever is lent.
-fn state(registers: &[u32], variables: &[u32], kept: &[u8], marks: &[u8], session: Session) {
+fn state(registers: &[u32], variables: &[u32], kept: &[u32], marks: &[u8], session: Session) {
     let opened = session.opened;
     let held = lent(opened, ALL, word(registers, 0), kept.len());
     let marked = lent(opened, ALL, word(variables, 0), marks.len());
     say(b"record");
-    bytes(&kept[..held], Digits::Hex);
+    numbers_of(&kept[..held], registers);
     say(b" marks");
-    bytes(&marks[..marked], Digits::Decimal);
+    marks_of(&marks[..marked]);
     let in_hand = session.operation;
     operation(in_hand);
     say(b"\n");
@@ -148,15 +179,16 @@ fn state(registers: &[u32], variables: &[u32], kept: &[u8], marks: &[u8], sessio
 
 pub fn reply(
     given: Reply,
+    parameters: &[u32],
     registers: &[u32],
     variables: &[u32],
-    kept: &[u8],
+    kept: &[u32],
     marks: &[u8],
     session: Session,
 ) {
     match given {
         Reply::Silence => say(b""),
-        Reply::Answered(answered) => answer(answered),
+        Reply::Answered(answered) => answer(answered, parameters),
         Reply::Looked(found) => looked(found),
         Reply::Stand => state(registers, variables, kept, marks, session),
         Reply::Lent => say(b"lent\n"),

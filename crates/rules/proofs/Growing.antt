@@ -3,15 +3,20 @@
 use Prim.Native.Nat.{ℕ, _+_, _*_, _≤_, _<_}
 use native.Mathlib.Omega.{arith}
 use mathlib.Core.Path.{_≡_, ap, _∙_}
-use mathlib.Core.Bool.{true}
+use mathlib.Core.Bool.{Bool, true, _&&_, _||_}
 use mathlib.Core.List.{List}
+use lib.Dec.{eqb}
 use lib.ListN.{length}
+use borrow.Author.Tests.{eq-eqb}
 use Rattle.syntax.specs.declared.register.Register.{Register}
 use Rattle.syntax.specs.Parameter.{ParameterRead}
-use Rattle.tables.specs.Tables.{countOf}
-use Rattle.tables.specs.Rules.{parameterFault, parameterShape, registerFault, registerShape}
+use Rattle.tables.specs.Tables.{countOf, registerPartOf, registerWidth}
+use Rattle.bits.specs.Widths.{isWidth}
+use Rattle.tables.specs.Rules.{parameterFault, parameterShape, placed, placeTaken, registerFault, registerShape, widthKept}
 use Rattle.tables.specs.Sound.{parameterGood, registerGood}
+use Rattle.tables.proofs.Consistent.{register-parts}
 use Rattle.tables.proofs.Growth.{Added, SoFar, parameter-added, register-added}
+use Rattle.logic.proofs.Tests.{and-left}
 use Rattle.rules.specs.State.{State, withParameters, withRegisters}
 use Rattle.rules.specs.Names.{declaredBefore}
 use Rattle.rules.specs.Words.{appended}
@@ -72,6 +77,14 @@ module _ (text : List ℕ) {p r v : ℕ} (s : State) (d : ParameterRead) (g : Gr
       })
 
 -- ---- a register
+-- 12 is not broken
+fault-wide : (ps rs : List ℕ) (i : ℕ) → registerFault ps rs i ≡ 0 → isWidth (registerWidth rs i) ≡ true
+unfolding registerFault widthKept
+fault-wide ps rs i none =
+    and-left (isWidth (registerWidth rs i)) _
+    (register-parts (placed ps (registerPartOf rs 0 i) && placed ps (registerPartOf rs 1 i)) (placeTaken rs 0 i || placeTaken rs 1 i) (widthKept ps rs i)
+    (eq-eqb _ 0 none) .1)
+
 module _ (text : List ℕ) {p r v : ℕ} (s : State) (d : Register) (g : Growing p r v s) (few : r < 64) (few-parameters : p ≤ 16) where
   abbrev rs : List ℕ
   rs = s .registers
@@ -92,7 +105,7 @@ module _ (text : List ℕ) {p r v : ℕ} (s : State) (d : Register) (g : Growing
       rw (kept .1 .0)
       (record {
         so-far = register-added (s .parameters) (s .variables) (g .so-far) added
-            (register-good (s .parameters) rs-more (countOf rs) (R.register-shape text s d (kept .0) rs-fits (omega (arith, g .parameters-counted))) (kept .1 .1));
+            (register-good (s .parameters) rs-more (countOf rs) (R.register-shape text s d (kept .0) rs-fits (omega (arith, g .parameters-counted)) (fault-wide (s .parameters) rs-more (countOf rs) (kept .1 .1))) (kept .1 .1));
         parameters-long = g .parameters-long;
         registers-long = omega (arith, length-appended 15 rs (registerEntry text (s .parameters) d), g .registers-long);
         variables-long = g .variables-long;

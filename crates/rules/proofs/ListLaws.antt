@@ -10,7 +10,7 @@ use Rattle.rules.specs.declared.names.Found.{Found}
 use Rattle.rules.specs.Fault.{noFault, faultIf, orElse}
 use Rattle.rules.specs.Words.{wordOf, written}
 use Rattle.rules.specs.Names.{isNothing, indexOf}
-use Rattle.rules.specs.Lists.{pieceNamed, unknownIn, pieceWords, piecesOn, piecesOf}
+use Rattle.rules.specs.Lists.{highIn, pieceNamed, unknownIn, pieceWords, piecesOn, piecesOf}
 
 -- one word stored, then others
 pub written-none : (t : List ℕ) (at : ℕ) → t ≡ written t at []
@@ -37,11 +37,11 @@ module _ (text rs list : List ℕ) where
   unfolding piecesOn
   pieces-none t = refl
 
-  pub pieces-more : (t : List ℕ) (k : ℕ) {here next : List ℕ} {found : Found} {register high low : ℕ} → here ≡ piecesOn text rs list t k
-      → found ≡ pieceNamed text rs list k → register ≡ indexOf found → high ≡ getD list (5 * k + 3) 0 → low ≡ getD list (5 * k + 4) 0
+  pub pieces-more : (t : List ℕ) (k : ℕ) {here next : List ℕ} {found : Found} {register word high low : ℕ} → here ≡ piecesOn text rs list t k
+      → found ≡ pieceNamed text rs list k → register ≡ indexOf found → word ≡ wordOf register → high ≡ highIn rs list k word → low ≡ getD list (5 * k + 4) 0
       → next ≡ written here (3 * k) (wordOf register ∷ wordOf high ∷ wordOf low ∷ []) → next ≡ piecesOn text rs list t (k + 1)
   unfolding piecesOn pieceWords
-  pieces-more t k h f r u l n = rw (add-one, n, l, u, r, f, h)
+  pieces-more t k h f r w u l n = rw (add-one, n, l, u, w, r, f, h)
 
   -- stored on zeros
   pub pieces-from : (n : ℕ) {t w : List ℕ} → t ≡ piecesOn text rs list w n → w ≡ replicate 24 0 → t ≡ piecesOf text rs list n

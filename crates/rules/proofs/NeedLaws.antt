@@ -10,7 +10,8 @@ use lib.ListN.{getD}
 use borrow.Author.Tests.{leb-true, ltb-true}
 use Rattle.tables.specs.Every.{every, zeros}
 use Rattle.tables.specs.Marks.{distinct}
-use Rattle.tables.specs.Words.{countOf, present, pieceCount, pieceAt, pieceIn, triggerOf, registerPart, registerPartIn, variablePart, variablePartIn, kindOf, volatileOf, partBits}
+use Rattle.tables.specs.Words.{countOf, present, pieceCount, pieceAt, pieceIn, triggerOf, registerPart, registerPartIn, registerWidth, variablePart, variablePartIn, kindOf, volatileOf, partBits}
+use Rattle.bits.specs.Widths.{isWidth}
 use Rattle.tables.specs.Rules.{masksFit, registerPartShape, registerShape, pieceFits, partMaps, ownFault, variablePartShape, variableShape, variableFault, mappedBefore, triggerShared}
 use Rattle.tables.specs.Sound.{registerGood, variableGood}
 use Rattle.tables.proofs.Laws.{every-at}
@@ -23,10 +24,10 @@ either true b P h f g = f refl
 either false b P h f g = g h
 
 module _ (ps rs : List ℕ) (i : ℕ) (good : registerGood ps rs i ≡ true) where
-  part-needs : (at : ℕ) → registerPartShape ps rs at ≡ true → present rs at ≡ true → 1 ≤ countOf ps
+  part-needs : (w at : ℕ) → registerPartShape ps rs w at ≡ true → present rs at ≡ true → 1 ≤ countOf ps
   unfolding registerPartShape
-  part-needs at shape e =
-      let there : (ltb (getD rs (at + 1) 0) (countOf ps) && masksFit (registerPartIn rs at)) ≡ true = sym (rw e) ∙ shape in
+  part-needs w at shape e =
+      let there : (ltb (getD rs (at + 1) 0) (countOf ps) && masksFit w (registerPartIn rs at)) ≡ true = sym (rw e) ∙ shape in
       let l = ltb-true (getD rs (at + 1) 0) (countOf ps) (and-left (ltb (getD rs (at + 1) 0) (countOf ps)) _ there) in
       omega arith
 
@@ -34,11 +35,13 @@ module _ (ps rs : List ℕ) (i : ℕ) (good : registerGood ps rs i ≡ true) whe
   unfolding registerGood registerShape
   register-needs =
       let shape : registerShape ps rs i ≡ true = and-left (registerShape ps rs i) _ good in
-      let parts = and-left (registerPartShape ps rs (registerPart i 0) && registerPartShape ps rs (registerPart i 1)) _ shape in
-      let some = and-right (registerPartShape ps rs (registerPart i 0) && registerPartShape ps rs (registerPart i 1)) _ shape in
+      let w = registerWidth rs i in
+      let masked = and-right (isWidth w) _ shape in
+      let parts = and-left (registerPartShape ps rs w (registerPart i 0) && registerPartShape ps rs w (registerPart i 1)) _ masked in
+      let some = and-right (registerPartShape ps rs w (registerPart i 0) && registerPartShape ps rs w (registerPart i 1)) _ masked in
       either (present rs (registerPart i 0)) (present rs (registerPart i 1)) (1 ≤ countOf ps) some
-      (part-needs (registerPart i 0) (and-left (registerPartShape ps rs (registerPart i 0)) _ parts))
-      (part-needs (registerPart i 1) (and-right (registerPartShape ps rs (registerPart i 0)) _ parts))
+      (part-needs w (registerPart i 0) (and-left (registerPartShape ps rs w (registerPart i 0)) _ parts))
+      (part-needs w (registerPart i 1) (and-right (registerPartShape ps rs w (registerPart i 0)) _ parts))
 
 module _ (rs vs : List ℕ) (v : ℕ) (good : variableGood rs vs v ≡ true) where
   -- a part that is there has a piece, whose register is there

@@ -11,9 +11,10 @@ use borrow.Author.Tests.{leb-true, ltb-true}
 use Rattle.bits.specs.Bits.{bit}
 use Rattle.tables.specs.Every.{every, some, zeros}
 use Rattle.tables.specs.Marks.{has}
-use Rattle.tables.specs.Words.{countOf, parameterAt, rangeAt, rangeCount, registerPart, registerPartIn, variableAt}
+use Rattle.tables.specs.Words.{countOf, parameterAt, rangeAt, rangeCount, registerPart, registerPartIn, registerWidth, variableAt}
 use Rattle.tables.specs.Tables.{rangeOf}
-use Rattle.tables.specs.Rules.{rangeHolds, offsetIn, placed, masksFit, parameterShape, registerPartShape, registerShape, registerFault, variableShape, covered}
+use Rattle.bits.specs.Widths.{isWidth, widest}
+use Rattle.tables.specs.Rules.{asWide, widthKept, rangeHolds, offsetIn, placed, masksFit, parameterShape, registerPartShape, registerShape, registerFault, variableShape, covered}
 use Rattle.tables.specs.Sound.{parameterGood, registerGood, variableGood}
 use Rattle.tables.proofs.Laws.{every-at, every-is, every-same, some-same}
 use Rattle.tables.proofs.ZeroLaws.{zeros-at, zeros-are}
@@ -31,24 +32,43 @@ module _ (a b rs : List ℕ) (same-count : countOf a ≡ countOf b) (same : Alik
       let f = few j l in
       rw (same (rangeAt j k) (omega arith) (omega arith), same (rangeAt j k + 1) (omega arith) (omega arith)))
 
-  placed-same : (at : ℕ) → registerPartShape a rs at ≡ true → placed a (registerPartIn rs at) ≡ placed b (registerPartIn rs at)
+  placed-same : (w at : ℕ) → registerPartShape a rs w at ≡ true → placed a (registerPartIn rs at) ≡ placed b (registerPartIn rs at)
   unfolding placed registerPartShape
-  placed-same at shape = go (eqb (getD rs at 0) 1) refl
+  placed-same w at shape = go (eqb (getD rs at 0) 1) refl
     where
       go : (t : Bool) → eqb (getD rs at 0) 1 ≡ t → placed a (registerPartIn rs at) ≡ placed b (registerPartIn rs at)
       go true e =
-          let there : (ltb (getD rs (at + 1) 0) (countOf a) && masksFit (registerPartIn rs at)) ≡ true = sym (rw e) ∙ shape in
+          let there : (ltb (getD rs (at + 1) 0) (countOf a) && masksFit w (registerPartIn rs at)) ≡ true = sym (rw e) ∙ shape in
           rw e (offset-same (getD rs (at + 1) 0) (getD rs (at + 2) 0) (ltb-true _ _ (and-left (ltb (getD rs (at + 1) 0) (countOf a)) _ there)))
       go false e = rw e
 
+  -- 12: so is the width of the parameter
+  wide-same : (w at : ℕ) → registerPartShape a rs w at ≡ true → asWide a (registerPartIn rs at) w ≡ asWide b (registerPartIn rs at) w
+  unfolding asWide registerPartShape
+  wide-same w at shape = go (eqb (getD rs at 0) 1) refl
+    where
+      go : (t : Bool) → eqb (getD rs at 0) 1 ≡ t → asWide a (registerPartIn rs at) w ≡ asWide b (registerPartIn rs at) w
+      go true e =
+          let there : (ltb (getD rs (at + 1) 0) (countOf a) && masksFit w (registerPartIn rs at)) ≡ true = sym (rw e) ∙ shape in
+          let l = ltb-true (getD rs (at + 1) 0) (countOf a) (and-left (ltb (getD rs (at + 1) 0) (countOf a)) _ there) in
+          rw (e, same (parameterAt (getD rs (at + 1) 0) + 2) (omega arith) (omega arith))
+      go false e = rw e
+
   register-kept : (i : ℕ) → registerGood a rs i ≡ true → registerGood b rs i ≡ true
-  unfolding registerGood registerShape registerFault registerPartShape
+  unfolding registerGood registerShape registerFault registerPartShape widthKept
   register-kept i good =
       let shape : registerShape a rs i ≡ true = and-left (registerShape a rs i) _ good in
-      let both = and-left (registerPartShape a rs (registerPart i 0) && registerPartShape a rs (registerPart i 1)) _ shape in
-      let read = placed-same (registerPart i 0) (and-left (registerPartShape a rs (registerPart i 0)) _ both) in
-      let write = placed-same (registerPart i 1) (and-right (registerPartShape a rs (registerPart i 0)) _ both) in
-      rw (← read, ← write, ← same-count) good
+      let w = registerWidth rs i in
+      let both = and-left (registerPartShape a rs w (registerPart i 0) && registerPartShape a rs w (registerPart i 1)) _ (and-right (isWidth w) _ shape) in
+      let first = and-left (registerPartShape a rs w (registerPart i 0)) _ both in
+      let second = and-right (registerPartShape a rs w (registerPart i 0)) _ both in
+      rw (
+        ← placed-same w (registerPart i 0) first,
+        ← placed-same w (registerPart i 1) second,
+        ← wide-same w (registerPart i 0) first,
+        ← wide-same w (registerPart i 1) second,
+        ← same-count,
+      ) good
 
 -- ---- any words behind
 module _ (ps rs vs : List ℕ) (x y z : List ℕ) (s : SoFar ps rs vs) (p-long : 577 ≤ length ps) (r-long : 961 ≤ length rs) (v-long : 7553 ≤ length vs)
@@ -127,10 +147,10 @@ module _ (ps rs vs : List ℕ) (x y z : List ℕ) (s : SoFar ps rs vs) (p-long :
   covered-same : (p i : ℕ) → p < 2 → i < countOf rs → covered rs vs (countOf vs) p i ≡ covered (rs ++ y) (vs ++ z) (countOf vs) p i
   unfolding covered
   covered-same p i h l =
-      every-same 8 _ _ (λ b m.
+      every-same widest _ _ (λ b m.
       ap₂ (λ (d : ℕ) (t : Bool). not (bit b d) || t) (r-word (registerPart i p + 3) (omega arith))
       (some-same (countOf vs) _ _ (λ v k.
-      ap (has (32 * i + b)) (part-bits-same vs (vs ++ z) v (v-alike v k) v p (omega arith) h (shape-few (vs ++ z) v p h (shape-past v k))))))
+      ap (has (64 * i + b)) (part-bits-same vs (vs ++ z) v (v-alike v k) v p (omega arith) h (shape-few (vs ++ z) v p h (shape-past v k))))))
 
   pub covers-past : every (countOf rs) (λ i. covered rs vs (countOf vs) 0 i && covered rs vs (countOf vs) 1 i) ≡ true
       → every (countOf (rs ++ y)) (λ i. covered (rs ++ y) (vs ++ z) (countOf (vs ++ z)) 0 i && covered (rs ++ y) (vs ++ z) (countOf (vs ++ z)) 1 i) ≡ true

@@ -4,89 +4,42 @@ use Prim.Native.Nat.{ℕ, zero, suc, _+_, _-_, _*_, _/_, _≤_, _<_, _^_}
 use native.Mathlib.Omega.{arith}
 use native.Mathlib.Nat.{min-le-left}
 use mathlib.Core.Path.{_≡_, refl, sym, ap, ap₂, _∙_}
-use mathlib.Core.Bool.{Bool, true, false, _&&_, _||_, false≢true}
+use mathlib.Core.Bool.{Bool, true, false, _||_, cond, false≢true}
 use mathlib.Core.List.{List, [], _∷_}
-use lib.Dec.{eqb, ltb}
-use lib.Bits.{bitAnd, and-lt}
+use lib.Dec.{eqb, leb, ltb}
 use lib.ListN.{length, getD, length-append, List·getD-append}
 use lib.Seq.{getD-append-add}
-use borrow.Author.Tests.{eq-eqb, eqb-true, le-leb, lt-ltb, ltb-true}
-use Rattle.bits.specs.Bits.{bit}
-use Rattle.bits.proofs.BitLaws.{number-lt, bit-number, bits-equal}
-use Rattle.bits.proofs.MaskLaws.{bit-and, bit-none}
+use borrow.Author.Tests.{eq-eqb, eqb-true, lt-ltb, ltb-true}
 use Rattle.syntax.specs.declared.register.Register.{Register}
 use Rattle.tables.specs.Every.{firstOf}
-use Rattle.tables.specs.Words.{countOf, present, registerAt, registerPart}
+use Rattle.tables.specs.Words.{countOf, present, registerAt, registerPart, registerWidth}
+use Rattle.bits.specs.Widths.{isWidth}
 use Rattle.tables.specs.Rules.{registerPartShape, registerShape}
 use Rattle.tables.proofs.ZeroLaws.{zeros-are}
-use Rattle.rules.specs.declared.mask.Element.{Element}
-use Rattle.rules.specs.declared.mask.Element.the-variants.{Dot, Fixed, One}
+use Rattle.rules.specs.declared.mask.Mask.{Mask}
 use Rattle.rules.specs.State.{State}
 use Rattle.rules.specs.Words.{wordOf, appended}
 use Rattle.rules.specs.Names.{isNamed, heldOf, foundBelow, foundIn, isNothing, indexOf}
-use Rattle.rules.specs.Mask.{isElement, elements, maskOf}
 use Rattle.rules.specs.Register.{hasPart, portOf, partMask, partEntry, portFound, partWords, registerEntry, unknownPort, registerWritten}
 use Rattle.rules.proofs.FaultLaws.{or-none, if-none, only-none}
+use Rattle.rules.proofs.MaskLaws.{Fitting, at-fitting}
 use Rattle.rules.proofs.WordLaws.{word-itself}
 use Rattle.rules.proofs.AppendLaws.{appended-word}
 use Rattle.rules.proofs.OffsetLaws.{part-length}
 
--- ---- masks
--- no byte is a dot and fixed; what is 1 is fixed
-dot-apart : (x : ℕ) → (isElement Dot x && isElement Fixed x) ≡ false
-unfolding isElement
-dot-apart x = go (eqb x 46) refl
-  where
-    go : (b : Bool) → eqb x 46 ≡ b → (isElement Dot x && isElement Fixed x) ≡ false
-    go true e = rw (eqb-true x 46 e)
-    go false e = rw e
-
-one-fixed : (x : ℕ) → (isElement One x && isElement Fixed x) ≡ isElement One x
-unfolding isElement
-one-fixed x = go (eqb x 49) refl
-  where
-    go : (b : Bool) → eqb x 49 ≡ b → (isElement One x && isElement Fixed x) ≡ isElement One x
-    go true e = rw (eqb-true x 49 e)
-    go false e = rw e
-
-module _ (mask : List ℕ) where
-  small : (which : Element) → elements mask which < 2 ^ 8
-  unfolding elements
-  small which = number-lt 8 (λ b. isElement which (getD mask (8 - b) 0))
-
-  element-bit : (which : Element) (b : ℕ) → b < 8 → bit b (elements mask which) ≡ isElement which (getD mask (8 - b) 0)
-  unfolding elements
-  element-bit which b l = bit-number 8 (λ c. isElement which (getD mask (8 - c) 0)) b l
-
-  both-bits : (m n : Element) (b : ℕ) → b < 8
-      → bit b (bitAnd (elements mask m) (elements mask n)) ≡ (isElement m (getD mask (8 - b) 0) && isElement n (getD mask (8 - b) 0))
-  both-bits m n b l = bit-and b (elements mask m) (elements mask n) ∙ ap₂ _&&_ (element-bit m b l) (element-bit n b l)
-
-  dots-apart : bitAnd (elements mask Dot) (elements mask Fixed) ≡ 0
-  dots-apart =
-      bits-equal 8 _ 0 (and-lt 8 _ _ (small Dot) (small Fixed)) (omega arith)
-      (λ b l. both-bits Dot Fixed b l ∙ dot-apart (getD mask (8 - b) 0) ∙ sym (bit-none b))
-
-  ones-inside : bitAnd (elements mask One) (elements mask Fixed) ≡ elements mask One
-  ones-inside =
-      bits-equal 8 _ _ (and-lt 8 _ _ (small One) (small Fixed)) (small One)
-      (λ b l. both-bits One Fixed b l ∙ one-fixed (getD mask (8 - b) 0) ∙ sym (element-bit One b l))
-
 -- ---- the words of a part, wherever they stand
-module _ (ps t : List ℕ) (at index offset : ℕ) (mask : List ℕ) where
+module _ (ps t : List ℕ) (w at index offset : ℕ) (mask : Mask) (fitting : Fitting w mask) where
   abbrev given : List ℕ
-  given = 1 ∷ wordOf index ∷ wordOf offset ∷ maskOf mask .dots ∷ maskOf mask .fixed ∷ maskOf mask .ones ∷ []
+  given = 1 ∷ wordOf index ∷ wordOf offset ∷ mask .dots ∷ mask .fixed ∷ mask .ones ∷ []
 
-  there : ((k : ℕ) → k < 6 → getD t (at + k) 0 ≡ getD given k 0) → index < countOf ps → countOf ps ≤ 16 → registerPartShape ps t at ≡ true
-  unfolding registerPartShape maskOf
+  there : ((k : ℕ) → k < 6 → getD t (at + k) 0 ≡ getD given k 0) → index < countOf ps → countOf ps ≤ 16 → registerPartShape ps t w at ≡ true
+  unfolding registerPartShape
   there same l few =
       let first : getD t at 0 ≡ 1 = (let e : at ≡ at + 0 = omega arith in ap (λ (i : ℕ). getD t i 0) e) ∙ same 0 (omega arith) in
       let port : getD t (at + 1) 0 ≡ index = same 1 (omega arith) ∙ word-itself index (omega arith) in
-      let dots : getD t (at + 3) 0 ≡ elements mask Dot = same 3 (omega arith) in
-      let fixed : getD t (at + 4) 0 ≡ elements mask Fixed = same 4 (omega arith) in
-      let ones : getD t (at + 5) 0 ≡ elements mask One = same 5 (omega arith) in
-      let d : elements mask Dot ≤ 255 = omega (arith, small mask Dot) in
-      let f : elements mask Fixed ≤ 255 = omega (arith, small mask Fixed) in
+      let dots : getD t (at + 3) 0 ≡ mask .dots = same 3 (omega arith) in
+      let fixed : getD t (at + 4) 0 ≡ mask .fixed = same 4 (omega arith) in
+      let ones : getD t (at + 5) 0 ≡ mask .ones = same 5 (omega arith) in
       rw (
         first,
         port,
@@ -94,14 +47,14 @@ module _ (ps t : List ℕ) (at index offset : ℕ) (mask : List ℕ) where
         fixed,
         ones,
         lt-ltb index (countOf ps) l,
-        le-leb (elements mask Dot) 255 d,
-        le-leb (elements mask Fixed) 255 f,
-        dots-apart mask,
-        ones-inside mask,
-        eq-eqb (elements mask One) (elements mask One) refl,
+        lt-ltb (mask .dots) (2 ^ w) (fitting .dots-small),
+        lt-ltb (mask .fixed) (2 ^ w) (fitting .fixed-small),
+        fitting .dots-apart,
+        fitting .ones-inside,
+        eq-eqb (mask .ones) (mask .ones) refl,
       )
 
-  absent : ((k : ℕ) → k < 6 → getD t (at + k) 0 ≡ 0) → registerPartShape ps t at ≡ true
+  absent : ((k : ℕ) → k < 6 → getD t (at + k) 0 ≡ 0) → registerPartShape ps t w at ≡ true
   unfolding registerPartShape
   absent same =
       let first : getD t at 0 ≡ 0 = (let e : at ≡ at + 0 = omega arith in ap (λ (i : ℕ). getD t i 0) e) ∙ same 0 (omega arith) in
@@ -135,16 +88,16 @@ found-below text table stride name h =
     omega (arith, min-le-left (countOf table) ((length table - 1) / stride))
 
 -- a part, by whether the register has it
-part-judged : (ps t : List ℕ) (at index offset : ℕ) (mask : List ℕ) (b : Bool)
-    → ((k : ℕ) → k < 6 → getD t (at + k) 0 ≡ getD (partEntry b index offset (maskOf mask)) k 0) → index < countOf ps → countOf ps ≤ 16
-    → (registerPartShape ps t at ≡ true) × (present t at ≡ b)
+part-judged : (ps t : List ℕ) (w at index offset : ℕ) (mask : Mask) → Fitting w mask → (b : Bool)
+    → ((k : ℕ) → k < 6 → getD t (at + k) 0 ≡ getD (partEntry b index offset mask) k 0) → index < countOf ps → countOf ps ≤ 16
+    → (registerPartShape ps t w at ≡ true) × (present t at ≡ b)
 unfolding partEntry
-part-judged ps t at index offset mask true same l few =
+part-judged ps t w at index offset mask fitting true same l few =
     let e : at ≡ at + 0 = omega arith in
-    (there ps t at index offset mask same l few, ap (λ (i : ℕ). present t i) e ∙ ap (λ (w : ℕ). eqb w 1) (same 0 (omega arith)))
-part-judged ps t at index offset mask false same l few =
+    (there ps t w at index offset mask fitting same l few, ap (λ (i : ℕ). present t i) e ∙ ap (λ (x : ℕ). eqb x 1) (same 0 (omega arith)))
+part-judged ps t w at index offset mask fitting false same l few =
     let e : at ≡ at + 0 = omega arith in
-    (absent ps t at index offset mask (λ k m. same k m ∙ zero-word k), ap (λ (i : ℕ). present t i) e ∙ ap (λ (w : ℕ). eqb w 1) (same 0 (omega arith)))
+    (absent ps t w at index offset mask fitting (λ k m. same k m ∙ zero-word k), ap (λ (i : ℕ). present t i) e ∙ ap (λ (x : ℕ). eqb x 1) (same 0 (omega arith)))
 
 -- a register has a part
 some-part : (r : Register) → (hasPart r 2 || hasPart r 1) ≡ true
@@ -224,9 +177,25 @@ module _ (text : List ℕ) (s : State) (r : Register) (none : registerWritten te
         let e : registerPart n 1 + k ≡ registerAt n + suc (suc (suc (length reads + k))) = omega (arith, reads-long) in
         ap (λ (i : ℕ). getD with-entry i 0) e ∙ word (suc (suc (suc (length reads + k)))) (omega (arith, reads-long)) ∙ getD-append-add reads writes k 0
 
-    pub register-shape : registerShape ps with-entry n ≡ true
-    unfolding registerShape partWords partMask
-    register-shape =
-        let a = part-judged ps with-entry (registerPart n 0) _ _ _ (hasPart r 2) read-word (port-below 1) few in
-        let b = part-judged ps with-entry (registerPart n 1) _ _ _ (hasPart r 1) write-word (port-below 2) few in
-        rw (a .0, b .0, a .1, b .1) (some-part r)
+    -- its width is the third word
+    pub width-is : registerWidth with-entry n ≡ r .width
+    unfolding registerEntry
+    width-is = word 2 (omega arith)
+
+    -- each part has its shape, whatever the width
+    parts : (p other mark own quote : ℕ) → ((k : ℕ) → k < 6 → getD with-entry (registerPart n p + k) 0 ≡ getD (partWords text ps r mark other own quote) k 0)
+        → (registerPartShape ps with-entry (r .width) (registerPart n p) ≡ true) × (present with-entry (registerPart n p) ≡ hasPart r other)
+    unfolding partWords partMask
+    parts p other mark own quote words =
+        part-judged ps with-entry (r .width) (registerPart n p) _ _ _ (at-fitting text (r .width) (leb 1 (r .masks .bare + own)) (cond (eqb own 0) (r .masks .whole) quote))
+        (hasPart r other) words (port-below mark) few
+
+    pub read-shape : (registerPartShape ps with-entry (registerWidth with-entry n) (registerPart n 0) ≡ true) × (present with-entry (registerPart n 0) ≡ hasPart r 2)
+    read-shape = rw width-is (parts 0 2 1 (r .masks .read) (r .masks .reading) read-word)
+
+    pub write-shape : (registerPartShape ps with-entry (registerWidth with-entry n) (registerPart n 1) ≡ true) × (present with-entry (registerPart n 1) ≡ hasPart r 1)
+    write-shape = rw width-is (parts 1 1 2 (r .masks .write) (r .masks .writing) write-word)
+
+    pub register-shape : isWidth (registerWidth with-entry n) ≡ true → registerShape ps with-entry n ≡ true
+    unfolding registerShape
+    register-shape wide = rw (wide, read-shape .0, write-shape .0, read-shape .1, write-shape .1) (some-part r)

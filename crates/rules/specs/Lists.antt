@@ -1,20 +1,25 @@
 -- The bit lists of a variable: the registers that they name, which of them gives which part, and the words of a part.
 -- A list was read into five words for each piece: the place and the length of the register's name, whether it is taken whole, the high bit and the low one.
 -- `rs` are the registers; a part p is 0 for read and 1 for write.
-use Prim.Native.Nat.{ℕ, zero, suc, _+_, _*_}
+use Prim.Native.Nat.{ℕ, zero, suc, _+_, _-_, _*_}
 use mathlib.Core.Bool.{Bool, _&&_, cond}
 use mathlib.Core.List.{List, [], _∷_}
 use lib.Dec.{eqb}
 use lib.ListN.{getD, replicate}
 use Rattle.syntax.specs.declared.variable.Variable.{Variable}
 use Rattle.tables.specs.Every.{every}
-use Rattle.tables.specs.Words.{present, registerPart}
+use Rattle.tables.specs.Words.{present, registerPart, registerWidth}
 use Rattle.rules.specs.declared.fault.Fault.{Fault}
 use Rattle.rules.specs.declared.names.Found.{Found}
 use Rattle.rules.specs.Fault.{noFault, faultIf, orElse}
 use Rattle.rules.specs.Modifiers.{arePaired}
 use Rattle.rules.specs.Names.{nameOf, registerNamed, isNothing, indexOf}
 use Rattle.rules.specs.Words.{wordOf, written}
+
+-- 02, No. 6: "masks and bit numbers follow": a whole register is all its bits. The high bit of piece k, of register r: as it
+-- is read, or the highest that the register has, where it is taken whole
+unfoldable pub highIn : List ℕ → List ℕ → ℕ → ℕ → ℕ
+highIn rs list k r = cond (eqb (getD list (5 * k + 2) 0) 1) (registerWidth rs r - 1) (getD list (5 * k + 3) 0)
 
 module _ (text rs list : List ℕ) where
   -- the register that piece k names
@@ -28,7 +33,9 @@ module _ (text rs list : List ℕ) where
 
   -- piece k as the tables hold it: the register's index, the high bit and the low one
   unfoldable pub pieceWords : ℕ → List ℕ
-  pieceWords k = wordOf (indexOf (pieceNamed k)) ∷ wordOf (getD list (5 * k + 3) 0) ∷ wordOf (getD list (5 * k + 4) 0) ∷ []
+  pieceWords k =
+      let r : ℕ = wordOf (indexOf (pieceNamed k)) in
+      r ∷ wordOf (highIn rs list k r) ∷ wordOf (getD list (5 * k + 4) 0) ∷ []
 
   -- the first n pieces, on words that were something else before
   unfoldable pub piecesOn : List ℕ → ℕ → List ℕ

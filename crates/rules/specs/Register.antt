@@ -9,6 +9,7 @@ use Rattle.expression.specs.declared.Worth.the-variants.{Good, Bad}
 use Rattle.syntax.specs.declared.register.Port.{Port}
 use Rattle.syntax.specs.declared.register.Masks.{Masks}
 use Rattle.syntax.specs.declared.register.Register.{Register}
+use Rattle.syntax.specs.Register.{isMasked}
 use Rattle.tables.specs.Tables.{countOf}
 use Rattle.tables.specs.Rules.{offsetIn, registerFault}
 use Rattle.rules.specs.declared.fault.Fault.{Fault}
@@ -19,7 +20,7 @@ use Rattle.rules.specs.State.{State, unlessBroken, withRegisters}
 use Rattle.rules.specs.Names.{nameOf, parameterNamed, isNothing, indexOf, declaredBefore}
 use Rattle.rules.specs.Words.{wordOf, appended}
 use Rattle.rules.specs.Modifiers.{arePaired, atMostOne}
-use Rattle.rules.specs.Mask.{maskText, maskOf}
+use Rattle.rules.specs.Mask.{maskAt}
 
 -- ── offsets ──
 
@@ -44,10 +45,15 @@ isPaired r = arePaired (not (r .two)) (r .first .mark) (r .second .mark)
 unfoldable pub hasPart : Register → ℕ → Bool
 hasPart r other = r .two || not (eqb (r .first .mark) other)
 
--- each mask has eight elements, and each part at most one mask
+-- 02, No. 6: "Rule 9's mask length .. read[s] the register's own width": each mask has as many elements as the register
+-- has bits, be that a width or not (then 12)
+unfoldable pub masksLong : Register → Bool
+masksLong r = not (r .masks .odd) && (not (isMasked (r .masks)) || eqb (r .masks .extent) (r .width))
+
+-- and each part has at most one mask
 unfoldable pub masksKept : Register → Bool
 masksKept r =
-    not (r .masks .odd) && atMostOne (hasPart r 2) (r .masks .bare) (r .masks .read) && atMostOne (hasPart r 1) (r .masks .bare) (r .masks .write)
+    masksLong r && atMostOne (hasPart r 2) (r .masks .bare) (r .masks .read) && atMostOne (hasPart r 1) (r .masks .bare) (r .masks .write)
 
 -- ── the entry ──
 
@@ -55,9 +61,9 @@ masksKept r =
 unfoldable pub portOf : Register → ℕ → Port
 portOf r mark = cond (r .two && not (eqb (r .first .mark) mark)) (r .second) (r .first)
 
--- the mask of a part: its own, or the bare one, or eight dots
-unfoldable pub partMask : List ℕ → Masks → ℕ → ℕ → Mask
-partMask text masks own quote = maskOf (maskText text (leb 1 (masks .bare + own)) (cond (eqb own 0) (masks .whole) quote))
+-- the mask of a part of w bits: its own, or the bare one, or all dots
+unfoldable pub partMask : List ℕ → ℕ → Masks → ℕ → ℕ → Mask
+partMask text w masks own quote = maskAt text w (leb 1 (masks .bare + own)) (cond (eqb own 0) (masks .whole) quote)
 
 -- present, parameter, offset, dots, fixed, ones; six zeros where the part is missing
 unfoldable pub partEntry : Bool → ℕ → ℕ → Mask → List ℕ
@@ -71,7 +77,7 @@ portFound text ps p = parameterNamed text ps (nameOf text (p .place) (p .length)
 -- the words of a part: `mark` is its modifier, `other` the other part's; `own` and `quote` say of its own masks
 unfoldable pub partWords : List ℕ → List ℕ → Register → ℕ → ℕ → ℕ → ℕ → List ℕ
 partWords text ps r mark other own quote =
-    partEntry (hasPart r other) (indexOf (portFound text ps (portOf r mark))) (naturalOf (portOf r mark .worth)) (partMask text (r .masks) own quote)
+    partEntry (hasPart r other) (indexOf (portFound text ps (portOf r mark))) (naturalOf (portOf r mark .worth)) (partMask text (r .width) (r .masks) own quote)
 
 -- name place, name length, width, the read part, the write part
 unfoldable pub registerEntry : List ℕ → List ℕ → Register → List ℕ

@@ -1,10 +1,11 @@
 // The bit lists of a variable: the registers that they name, and which list gives which part.
 ghost use mathlib.Core.Path.{_≡_};
-ghost use Prim.Native.Nat.{_+_, _*_, _<_, _≤_, _^_};
+ghost use Prim.Native.Nat.{_+_, _-_, _*_, _<_, _≤_, _^_};
 ghost use mathlib.Core.List.{[], _∷_};
 ghost use lib.ListN.{getD, length};
+ghost use Rattle.tables.specs.Words.{registerWidth};
 ghost use Rattle.rules.specs.Words.{wordOf, written};
-ghost use Rattle.rules.specs.Lists.{pieceNamed, unknownIn, piecesOn, allHave, listFor, partWords};
+ghost use Rattle.rules.specs.Lists.{highIn, pieceNamed, unknownIn, piecesOn, allHave, listFor, partWords};
 use crate::fault::Fault;
 use crate::fault::fault_if;
 use crate::fault::no_fault;
@@ -49,6 +50,24 @@ pub fn store_piece(pieces: &mut [u32], at: usize, register: usize, high: usize, 
     put(pieces, at + 2, narrow(low));
 }
 
+// The highest bit that a register has.
+fn top_of(registers: &[u32], register: u32) -> usize
+    ensures { λ r. ⌜ r ≡ registerWidth (now (registers .entry)) register - 1 ⌝ }
+{
+    let width = word(registers, 15 * (register as usize) + 1 + 2);
+    if width == 0 { 0 } else { width - 1 }
+}
+
+// The high bit of a piece: as it is read, or the register's highest, where that is taken whole.
+fn high_of(registers: &[u32], list: &[usize], k: usize, register: u32) -> usize
+    requires { ⌜ k < 2 ^ 32 ⌝ }
+    ensures { λ r. ⌜ r ≡ highIn (now (registers .entry)) (now (list .entry)) k register ⌝ }
+{
+    let top = top_of(registers, register);
+    let high = item(list, 5 * k + 3);
+    choose(item(list, 5 * k + 2) == 1, top, high)
+}
+
 // Stores the pieces of a list as the tables hold them. Rule 7: the first name that is no register's.
 pub fn resolve(
     text: &[u8],
@@ -69,7 +88,7 @@ pub fn resolve(
         let unknown = fault_if(is_nothing(found), 7, place);
         fault = or_else(fault, unknown);
         let register = index_of(found);
-        let high = item(list, 5 * k + 3);
+        let high = high_of(registers, list, k, narrow(register));
         let low = item(list, 5 * k + 4);
         store_piece(pieces, 3 * k, register, high, low);
         k += 1;

@@ -1,9 +1,9 @@
 // Masks, as numbers.
 ghost use mathlib.Core.Path.{_≡_};
-ghost use Prim.Native.Nat.{_+_, _*_, _<_, _^_};
+ghost use Prim.Native.Nat.{_≤_};
 ghost use lib.ListN.{getD};
-ghost use Rattle.bits.specs.Bits.{digit};
-ghost use Rattle.rules.specs.Mask.{isElement, maskText, elements, maskOf};
+ghost use Rattle.bits.specs.Widths.{widest};
+ghost use Rattle.rules.specs.Mask.{isElement, bitsHeld, elements, maskOf, allDots, maskAt};
 use crate::names;
 
 // What an element of a mask may be: a dot, `0` or `1`, or `1`.
@@ -37,47 +37,66 @@ fn byte_at(mask: &[u8], at: usize) -> u8
     if at < mask.len() { mask[at] } else { 0 }
 }
 
-// A number with one bit more, of this weight.
-fn with_weight(number: u32, weight: u32, on: bool) -> u32
-    requires { ⌜ number + weight < 2 ^ 32 ⌝ }
-    ensures { λ r. ⌜ r ≡ number + digit on * weight ⌝ }
+// How many bits the numbers of a mask have.
+fn bits_held(width: usize) -> usize
+    ensures is { λ r. ⌜ r ≡ bitsHeld width ⌝ }
+    ensures inside { λ r. ⌜ r ≤ width ⌝ }
+    ensures most { λ r. ⌜ r ≤ widest ⌝ }
 {
-    if on { number + weight } else { number }
+    if width <= bits::WIDEST {
+        width
+    } else {
+        bits::WIDEST
+    }
 }
 
-// The bits at which such an element stands, in a mask with its opening quote.
-fn elements_of(mask: &[u8], which: Element) -> u32
-    ensures { λ r. ⌜ r ≡ elements (now (mask .entry)) which ⌝ }
+// The bits at which such an element stands, in a mask of `width` elements with its opening quote.
+fn elements_of(mask: &[u8], width: usize, which: Element) -> u32
+    ensures { λ r. ⌜ r ≡ elements width (now (mask .entry)) which ⌝ }
 {
-    let mut number: u32 = 0;
-    let mut weight: u32 = 1;
+    let held = bits_held(width);
+    let mut number = 0;
     let mut b = 0;
-    while b < 8 {
-        let on = is_element(which, byte_at(mask, 8 - b));
-        number = with_weight(number, weight, on);
-        weight *= 2;
+    while b < held {
+        let on = is_element(which, byte_at(mask, width - b));
+        number = bits::with_bit(number, b, on);
         b += 1;
     }
-    number
+    number as u32
 }
 
-fn mask_of(mask: &[u8]) -> Mask
-    ensures { λ r. ⌜ r ≡ maskOf (now (mask .entry)) ⌝ }
+fn mask_of(mask: &[u8], width: usize) -> Mask
+    ensures { λ r. ⌜ r ≡ maskOf width (now (mask .entry)) ⌝ }
 {
     Mask {
-        dots: elements_of(mask, Element::Dot),
-        fixed: elements_of(mask, Element::Fixed),
-        ones: elements_of(mask, Element::One),
+        dots: elements_of(mask, width, Element::Dot),
+        fixed: elements_of(mask, width, Element::Fixed),
+        ones: elements_of(mask, width, Element::One),
     }
 }
 
-// The mask whose opening quote stands at a place; without one, eight dots.
-pub fn mask_at(text: &[u8], given: bool, quote: usize) -> Mask
-    ensures { λ r. ⌜ r ≡ maskOf (maskText (now (text .entry)) given quote) ⌝ }
+// Without a mask every bit is a dot.
+fn all_dots(width: usize) -> Mask
+    ensures { λ r. ⌜ r ≡ allDots width ⌝ }
 {
+    let held = bits_held(width);
+    let limit = bits::power(held);
+    let dots = (limit - 1) as u32;
+    Mask {
+        dots,
+        fixed: 0,
+        ones: 0,
+    }
+}
+
+// The mask of `width` elements whose opening quote stands at a place, where one is given.
+pub fn mask_at(text: &[u8], width: u32, given: bool, quote: usize) -> Mask
+    ensures { λ r. ⌜ r ≡ maskAt (now (text .entry)) width given quote ⌝ }
+{
+    let wide = width as usize;
     if given {
-        mask_of(names::name_of(text, quote, 9))
+        mask_of(names::name_of(text, quote, wide + 1), wide)
     } else {
-        mask_of(b"'........")
+        all_dots(wide)
     }
 }

@@ -23,7 +23,7 @@ ghost use Rattle.expression.specs.declared.Worth.the-variants.{Good};
 ghost use Rattle.rules.specs.State.{stateOf, unlessStopped};
 ghost use Rattle.rules.specs.Names.{Fresh};
 ghost use Rattle.rules.specs.Words.{appended};
-ghost use Rattle.rules.specs.Register.{isNatural, naturalOf, hasPart, masksKept, portOf, partMask, partEntry, portFound, unknownPort, badOffset, registerWritten, partWords, registerEntry, judgeRegister};
+ghost use Rattle.rules.specs.Register.{isNatural, naturalOf, hasPart, masksLong, masksKept, portOf, partMask, partEntry, portFound, unknownPort, badOffset, registerWritten, partWords, registerEntry, judgeRegister};
 
 fn is_natural(worth: Worth) -> bool
     ensures { λ r. ⌜ r ≡ isNatural worth ⌝ }
@@ -83,6 +83,14 @@ fn has_part(register: Register, other: u8) -> bool
     register.two | !(first.mark == other)
 }
 
+// Has each mask as many elements as the register has bits?
+fn masks_long(register: Register) -> bool
+    ensures { λ r. ⌜ r ≡ masksLong register ⌝ }
+{
+    let masks = register.masks;
+    !masks.odd & (!syntax::is_masked(masks) | (masks.extent == register.width as usize))
+}
+
 // Rule 9, of the masks.
 fn masks_kept(register: Register) -> bool
     ensures { λ r. ⌜ r ≡ masksKept register ⌝ }
@@ -92,7 +100,7 @@ fn masks_kept(register: Register) -> bool
     let write = has_part(register, 1);
     let one_read = modifiers::at_most_one(read, masks.bare, masks.read);
     let one_write = modifiers::at_most_one(write, masks.bare, masks.write);
-    !masks.odd & one_read & one_write
+    masks_long(register) & one_read & one_write
 }
 
 // Rules 6 to 9, as the register is written.
@@ -144,12 +152,17 @@ fn port_of(register: Register, mark: u8) -> Port
     }
 }
 
-// The mask of a part: its own, or the bare one, or eight dots.
-fn part_mask(text: &[u8], masks: Masks, own: u8, quote: usize) -> Mask
-    ensures { λ r. ⌜ r ≡ partMask (now (text .entry)) masks own quote ⌝ }
+// The mask of a part: its own, or the bare one, or all dots.
+fn part_mask(text: &[u8], width: u32, masks: Masks, own: u8, quote: usize) -> Mask
+    ensures { λ r. ⌜ r ≡ partMask (now (text .entry)) width masks own quote ⌝ }
 {
     let given = 1 <= (masks.bare as u32) + (own as u32);
-    mask::mask_at(text, given, words::choose(own == 0, masks.whole, quote))
+    mask::mask_at(
+        text,
+        width,
+        given,
+        words::choose(own == 0, masks.whole, quote),
+    )
 }
 
 // The words of a part that is there or not.
@@ -180,7 +193,7 @@ fn part_words(
     let index = names::index_of(port_found(text, parameters, port));
     let worth = port.worth;
     let masks = register.masks;
-    let mask = part_mask(text, masks, own, quote);
+    let mask = part_mask(text, register.width, masks, own, quote);
     part_entry(has_part(register, other), index, natural_of(worth), mask)
 }
 

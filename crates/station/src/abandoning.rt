@@ -14,7 +14,7 @@ pub fn abandon(
     parameters: &[u32],
     registers: &[u32],
     variables: &[u32],
-    held: &[u8],
+    held: &[u32],
     marks: &mut [u8],
     operation: Operation,
 ) -> Outcome

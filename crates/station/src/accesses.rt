@@ -2,6 +2,7 @@
 ghost use mathlib.Core.Path.{_≡_};
 ghost use Prim.Native.Nat.{_≤_, _<_};
 ghost use lib.ListN.{getD};
+ghost use Rattle.bits.specs.Widths.{widest};
 ghost use Rattle.wiring.specs.Pieces.{Usable};
 ghost use Rattle.station.specs.Variable.{partOf, widthOf, Byte};
 ghost use Rattle.station.specs.Access.{cellOf, byteToWrite, fitsMask, gatherByte, accessOf, readAccess, writeAccess};
@@ -20,13 +21,13 @@ pub fn byte_at(bytes: &[u8], i: usize) -> u8
     if i < bytes.len() { bytes[i] } else { 0 }
 }
 
-fn cell_of(registers: &[u32], held: &[u8], r: usize) -> Cell
+fn cell_of(registers: &[u32], held: &[u32], r: usize) -> Cell
     requires { ⌜ r < 64 ⌝ }
     ensures { λ a. ⌜ a ≡ cellOf (now (registers .entry)) (now (held .entry)) r ⌝ }
 {
     let dots = tables::words::word(registers, 15 * r + 4 + 6 * 1 + 3);
     let ones = tables::words::word(registers, 15 * r + 4 + 6 * 1 + 5);
-    let byte = byte_at(held, r) as usize;
+    let byte = tables::words::word(held, r);
     Cell {
         register: r,
         dots,
@@ -38,11 +39,11 @@ fn cell_of(registers: &[u32], held: &[u8], r: usize) -> Cell
 pub fn byte_to_write(
     registers: &[u32],
     variables: &[u32],
-    held: &[u8],
+    held: &[u32],
     v: usize,
     value: usize,
     r: usize,
-) -> u8
+) -> u32
     requires { ⌜ v < 128 ⌝ }
     requires { ⌜ Usable (partOf (now variables) v 1) ⌝ }
     requires { ⌜ Byte (now registers) r ⌝ }
@@ -52,11 +53,11 @@ pub fn byte_to_write(
     let cell = cell_of(registers, held, r);
     let width = tables::words::word(registers, 15 * r + 1 + 2);
     let byte = wiring::assemble(variables, part, Rule::Written(cell, value), width);
-    byte as u8
+    byte as u32
 }
 
 // Has the byte that was read at the fixed bits of the register's read mask what is fixed there?
-pub fn fits_mask(registers: &[u32], r: usize, byte: u8) -> bool
+pub fn fits_mask(registers: &[u32], r: usize, byte: u32) -> bool
     requires { ⌜ r < 64 ⌝ }
     ensures { λ a. ⌜ a ≡ fitsMask (now (registers .entry)) r byte ⌝ }
 {
@@ -66,10 +67,10 @@ pub fn fits_mask(registers: &[u32], r: usize, byte: u8) -> bool
     brought & fixed == ones
 }
 
-pub fn gather_byte(variables: &[u32], v: usize, n: usize, so_far: usize, byte: u8) -> usize
+pub fn gather_byte(variables: &[u32], v: usize, n: usize, so_far: usize, byte: u32) -> usize
     requires { ⌜ v < 128 ⌝ }
     requires { ⌜ Usable (partOf (now variables) v 0) ⌝ }
-    requires { ⌜ widthOf (now variables) v ≤ 32 ⌝ }
+    requires { ⌜ widthOf (now variables) v ≤ widest ⌝ }
     ensures { λ r. ⌜ r ≡ gatherByte (now (variables .entry)) v n «so_far» byte ⌝ }
 {
     let part = part_of(variables, v, 0);
@@ -84,7 +85,7 @@ pub fn gather_byte(variables: &[u32], v: usize, n: usize, so_far: usize, byte: u
 }
 
 // An access of register `r`: by its part, whose side this is, with its byte.
-fn access_of(registers: &[u32], part: Part, side: usize, r: usize, byte: u8) -> Access
+fn access_of(registers: &[u32], part: Part, side: usize, r: usize, byte: u32) -> Access
     requires { ⌜ (r < 64) × (side < 2) ⌝ }
     ensures { λ a. ⌜ a ≡ accessOf (now (registers .entry)) part side r byte ⌝ }
 {
@@ -108,7 +109,7 @@ pub fn read_access(registers: &[u32], r: usize) -> Access
 pub fn write_access(
     registers: &[u32],
     variables: &[u32],
-    held: &[u8],
+    held: &[u32],
     v: usize,
     value: usize,
     r: usize,

@@ -49,7 +49,7 @@ fn next_read(
 fn next_write(
     registers: &[u32],
     variables: &[u32],
-    held: &[u8],
+    held: &[u32],
     marks: &mut [u8],
     v: usize,
     step: usize,
@@ -74,7 +74,7 @@ fn next_write(
 fn record_byte(
     registers: &[u32],
     variables: &[u32],
-    held: &mut [u8],
+    held: &mut [u32],
     v: usize,
     step: usize,
     value: usize,
@@ -96,7 +96,7 @@ fn confirm_read(
     v: usize,
     step: usize,
     gathered: usize,
-    byte: u8,
+    byte: u32,
 ) -> Outcome
     requires { ⌜ Ready (now registers) (now variables) v 0 ⌝ }
     requires { ⌜ step < accessCount (now variables) v 0 ⌝ }
@@ -115,7 +115,7 @@ fn confirm_read(
 fn confirm_write(
     registers: &[u32],
     variables: &[u32],
-    held: &mut [u8],
+    held: &mut [u32],
     marks: &mut [u8],
     v: usize,
     step: usize,
@@ -142,10 +142,10 @@ pub fn confirm(
     parameters: &[u32],
     registers: &[u32],
     variables: &[u32],
-    held: &mut [u8],
+    held: &mut [u32],
     marks: &mut [u8],
     operation: Operation,
-    byte: u8,
+    byte: u32,
 ) -> Outcome
     ensures { λ r. ⌜ Meets
         (confirm sound

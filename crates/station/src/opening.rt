@@ -1,27 +1,54 @@
-// The opening: the record takes the power-on bytes, and every mark is cleared.
+// The opening: the record takes the power-on numbers, and every mark is cleared.
 ghost use mathlib.Core.Path.{_≡_};
-ghost use Prim.Native.Nat.{_≤_};
+ghost use Prim.Native.Nat.{_≤_, _<_, _%_, _^_};
 ghost use lib.ListN.{length};
+ghost use Rattle.bits.specs.Widths.{widest};
 ghost use Rattle.station.specs.Standing.{tablesOf};
-ghost use Rattle.station.specs.Station.{copied, openFault};
+ghost use Rattle.station.specs.Station.{stored, powerOf, openFault};
 ghost use Rattle.tables.specs.View.{sound};
 ghost use Rattle.station.specs.Calls.{opening};
 ghost use Rattle.station.specs.Promise.{lent, Meets};
 use crate::Answer;
 use crate::Operation;
 use crate::Outcome;
-use crate::accesses::byte_at;
 use crate::outcomes::refuse;
 use crate::standing::fault;
 
-// The first `n` bytes of `target` become those of `source`, and 0 where it has none.
-fn copy_bytes(source: &[u8], target: &mut [u8], n: usize)
+// A number without its bits from a width up.
+fn cut(number: usize, width: usize) -> usize
+    requires { ⌜ number < 2 ^ widest ⌝ }
+    ensures { λ r. ⌜ r ≡ number % 2 ^ width ⌝ }
+{
+    if width <= bits::WIDEST {
+        number & (bits::power(width) - 1)
+    } else {
+        number
+    }
+}
+
+// The first `n` numbers of `target` become those of `power`, each cut to its register's width, and 0 where there is none.
+fn copy_numbers(registers: &[u32], power: &[u32], target: &mut [u32], n: usize)
     requires { ⌜ n ≤ length (now target) ⌝ }
-    ensures { λ _. ⌜ now (target .exit) ≡ copied (now (source .entry)) (now (target .entry)) n ⌝ }
+    requires { ⌜ n < 2 ^ 32 ⌝ }
+    ensures { λ _. ⌜ now (target .exit) ≡ stored (powerOf (now (registers .entry)) (now (power .entry))) (now (target .entry)) n ⌝ }
 {
     let mut i: usize = 0;
     while i < n {
-        target[i] = byte_at(source, i);
+        let width = tables::words::word(registers, 15 * i + 1 + 2);
+        let number = tables::words::word(power, i);
+        target[i] = cut(number, width) as u32;
+        i += 1;
+    }
+}
+
+// The first `n` marks become 0.
+fn clear_marks(marks: &mut [u8], n: usize)
+    requires { ⌜ n ≤ length (now marks) ⌝ }
+    ensures { λ _. ⌜ now (marks .exit) ≡ stored (λ v. 0) (now (marks .entry)) n ⌝ }
+{
+    let mut i: usize = 0;
+    while i < n {
+        marks[i] = 0;
         i += 1;
     }
 }
@@ -59,8 +86,8 @@ pub fn open(
     parameters: &[u32],
     registers: &[u32],
     variables: &[u32],
-    power: &[u8],
-    held: &mut [u8],
+    power: &[u32],
+    held: &mut [u32],
     marks: &mut [u8],
     operation: Operation,
 ) -> Outcome
@@ -82,8 +109,8 @@ pub fn open(
     if number != 0 {
         return refuse(operation, number);
     }
-    copy_bytes(power, held, tables::words::word(registers, 0));
-    copy_bytes(&power[..0], marks, tables::words::word(variables, 0));
+    copy_numbers(registers, power, held, tables::words::word(registers, 0));
+    clear_marks(marks, tables::words::word(variables, 0));
     Outcome {
         operation: Operation::Idle,
         answer: Answer::Opened,

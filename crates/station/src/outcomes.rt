@@ -1,6 +1,7 @@
 // What a call comes to: a refusal, the offer of an access, done, abandoned, or stopped.
 ghost use mathlib.Core.Path.{_≡_};
 ghost use Prim.Native.Nat.{_≤_, _<_, _^_};
+ghost use Rattle.bits.specs.Widths.{widest};
 ghost use Rattle.wiring.specs.Pieces.{Usable};
 ghost use Rattle.station.specs.Variable.{partOf, widthOf, accessCount, Ready};
 ghost use Rattle.station.specs.Station.{outcomeOf, refusal, contradicted, offeredRead, offeredWrite, finished};
@@ -49,7 +50,7 @@ pub fn offer_read(
 pub fn offer_write(
     registers: &[u32],
     variables: &[u32],
-    held: &[u8],
+    held: &[u32],
     v: usize,
     step: usize,
     value: usize,
@@ -73,7 +74,7 @@ pub fn offer_write(
 pub fn finish(variables: &[u32], v: usize, side: usize, value: usize) -> Outcome
     requires { ⌜ (v < 128) × (side < 2) ⌝ }
     requires { ⌜ Usable (partOf (now variables) v side) ⌝ }
-    requires { ⌜ (widthOf (now variables) v ≤ 32) × (value < 2 ^ widthOf (now variables) v) ⌝ }
+    requires { ⌜ (widthOf (now variables) v ≤ widest) × (value < 2 ^ widthOf (now variables) v) ⌝ }
     ensures { λ r. ⌜ r ≡ finished (now (variables .entry)) v side value ⌝ }
 {
     let kind = kind_of(variables, v);

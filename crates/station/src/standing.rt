@@ -1,6 +1,7 @@
 // Refusals 20, 21 and 22, which every call on an open station tests first.
 ghost use mathlib.Core.Path.{_≡_};
 ghost use Prim.Native.Nat.{_≤_, _<_};
+ghost use Rattle.bits.specs.Widths.{widest};
 ghost use Rattle.wiring.specs.Pieces.{Usable};
 ghost use Rattle.station.specs.Variable.{partOf, widthOf, Sound};
 ghost use Rattle.station.specs.Standing.{tablesOf, due, gatheredSo, allowed, faultOf};
@@ -30,7 +31,7 @@ fn is_due(registers: &[u32], variables: &[u32], v: usize, side: usize, step: usi
 fn is_gathered(variables: &[u32], v: usize, step: usize, gathered: usize) -> bool
     requires { ⌜ v < 128 ⌝ }
     requires { ⌜ Usable (partOf (now variables) v 0) ⌝ }
-    requires { ⌜ widthOf (now variables) v ≤ 32 ⌝ }
+    requires { ⌜ widthOf (now variables) v ≤ widest ⌝ }
     ensures { λ r. ⌜ r ≡ gatheredSo (now (variables .entry)) v step gathered ⌝ }
 {
     let part = part_of(variables, v, 0);

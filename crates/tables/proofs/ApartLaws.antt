@@ -7,6 +7,7 @@ use lib.Bits.{bitAnd}
 use lib.Dec.{eqb, ltb}
 use borrow.Author.Tests.{eqb-true, eq-eqb, ltb-true, ltb-false}
 use Rattle.bits.specs.Bits.{bit}
+use Rattle.bits.specs.Widths.{widest}
 use Rattle.bits.proofs.BitLaws.{bit-over}
 use Rattle.bits.proofs.MaskLaws.{bit-and, same-bits}
 use Rattle.tables.specs.Every.{some}
@@ -86,7 +87,7 @@ module _ (a b : RegisterPart) where
       → toldApart a b ≡ false
   unfolding toldApart
   one-obeyed byte in-a in-b =
-      some-nowhere 32 (tells a b)
+      some-nowhere widest (tells a b)
       (λ k l.
       let f = bit k (a .fixed) in
       let g = bit k (b .fixed) in

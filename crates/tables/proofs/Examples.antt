@@ -5,9 +5,10 @@ use mathlib.Core.Bool.{true, false}
 use mathlib.Core.List.{List, _∷_, _++_}
 use lib.ListN.{replicate, set}
 use Rattle.bits.specs.Bits.{bit}
+use Rattle.bits.specs.Widths.{isWidth}
 use Rattle.tables.specs.Every.{every, some, zerosFront}
 use Rattle.tables.specs.Marks.{distinct, downFrom, has, joined, meets}
-use Rattle.tables.specs.Rules.{covered, mappedBefore, offsetIn, onDots, ownFault, parameterFault, parameterShape, partMaps, pieceFits, placeTaken, placed, rangesFit, registerFault, registerPartShape, registerShape, triggerShared, typeFits, variableFault, variablePartShape, variableShape, volatileFits, widthFits}
+use Rattle.tables.specs.Rules.{asWide, covered, widthKept, mappedBefore, offsetIn, onDots, ownFault, parameterFault, parameterShape, partMaps, pieceFits, placeTaken, placed, rangesFit, registerFault, registerPartShape, registerShape, triggerShared, typeFits, variableFault, variablePartShape, variableShape, volatileFits, widthFits}
 use Rattle.tables.specs.Sound.{restZero, rulesKept, shapesFit, sound, tablesFit}
 
 -- the tables of `device d(base:bit[8] port){register r=base:bit[8];variable v=r:int(8);}`
@@ -24,10 +25,10 @@ pub variablesA : List ℕ
 variablesA = 1 ∷ 59 ∷ 1 ∷ 0 ∷ 8 ∷ 0 ∷ wholeRegister ++ wholeRegister ++ replicate 7493 0
 
 pub sound-computes : sound parametersA registersA variablesA ≡ true
-unfolding bit sound tablesFit restZero shapesFit rulesKept parametersA registersA variablesA every some zerosFront parameterShape parameterFault rangesFit registerShape registerPartShape registerFault placed offsetIn placeTaken variableShape variablePartShape variableFault ownFault partMaps pieceFits onDots joined downFrom distinct has meets typeFits widthFits volatileFits mappedBefore triggerShared covered
+unfolding bit sound tablesFit restZero shapesFit rulesKept parametersA registersA variablesA every some zerosFront parameterShape parameterFault isWidth widthKept asWide rangesFit registerShape registerPartShape registerFault placed offsetIn placeTaken variableShape variablePartShape variableFault ownFault partMaps pieceFits onDots joined downFrom distinct has meets typeFits widthFits volatileFits mappedBefore triggerShared covered
 sound-computes = refl
 
 -- one word that should be zero, the last of the variables, makes them unsound
 pub last-word-counts : sound parametersA registersA (set variablesA 7552 1) ≡ false
-unfolding bit sound tablesFit restZero shapesFit rulesKept parametersA registersA variablesA every some zerosFront parameterShape parameterFault rangesFit registerShape registerPartShape registerFault placed offsetIn placeTaken variableShape variablePartShape variableFault ownFault partMaps pieceFits onDots joined downFrom distinct has meets typeFits widthFits volatileFits mappedBefore triggerShared covered
+unfolding bit sound tablesFit restZero shapesFit rulesKept parametersA registersA variablesA every some zerosFront parameterShape parameterFault isWidth widthKept asWide rangesFit registerShape registerPartShape registerFault placed offsetIn placeTaken variableShape variablePartShape variableFault ownFault partMaps pieceFits onDots joined downFrom distinct has meets typeFits widthFits volatileFits mappedBefore triggerShared covered
 last-word-counts = refl

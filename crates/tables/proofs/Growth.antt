@@ -10,6 +10,7 @@ use native.Mathlib.Nat.{eq-or-lt-of-le}
 use lib.Dec.{eqb, leb, ltb}
 use lib.ListN.{getD, length}
 use borrow.Author.Tests.{ltb-true, lt-ltb}
+use Rattle.bits.specs.Widths.{widest}
 use Rattle.tables.specs.Every.{every, zeros}
 use Rattle.tables.specs.Marks.{distinct}
 use Rattle.tables.specs.Tables.{countOf, partBits, pieceAt, pieceIn, registerAt, registerPart, registerPartIn, variableAt, variablePart, variablePartIn}
@@ -108,18 +109,18 @@ module _ (a b vs : List ℕ) (more : countOf a ≤ countOf b) (same : Alike (reg
   unfolding pieceFits
   piece-kept p piece h fits =
       let r = pieceRegister vs piece in
-      let low = and-right (leb (pieceHigh vs piece) 7) _ fits in
+      let low = and-right (ltb (pieceHigh vs piece) widest) _ fits in
       let register = and-right (leb (pieceLow vs piece) (pieceHigh vs piece)) _ low in
       let there : r < countOf a = ltb-true r (countOf a) (and-left (ltb r (countOf a)) _ register) in
       let dots = and-right (ltb r (countOf a)) _ register in
-      rw (and-left (leb (pieceHigh vs piece) 7) _ fits, and-left (leb (pieceLow vs piece) (pieceHigh vs piece)) _ low, lt-ltb r (countOf b) (omega arith))
+      rw (and-left (ltb (pieceHigh vs piece) widest) _ fits, and-left (leb (pieceLow vs piece) (pieceHigh vs piece)) _ low, lt-ltb r (countOf b) (omega arith))
       (sym (dots-same p r (pieceLow vs piece) (pieceHigh vs piece + 1 - pieceLow vs piece) h there) ∙ dots)
 
   maps-kept : (p at : ℕ) → p < 2 → partMaps a p (variablePartIn vs at) ≡ true → partMaps b p (variablePartIn vs at) ≡ true
   unfolding partMaps
   maps-kept p at h maps =
       let n = pieceCount vs at in
-      let few = leb (length (partBits (variablePartIn vs at))) 32 in
+      let few = leb (length (partBits (variablePartIn vs at))) widest in
       let pieces : List ℕ → Bool = λ rs. every n (λ k. pieceFits rs p (pieceIn vs (pieceAt at k))) in
       let front = and-left (pieces a && distinct (partBits (variablePartIn vs at))) few maps in
       let kept : pieces b ≡ true = every-is n _ (λ k l. piece-kept p (pieceAt at k) h (every-at n _ (and-left (pieces a) (distinct (partBits (variablePartIn vs at))) front) k l)) in
@@ -191,7 +192,7 @@ mapped-same a b n shapes same m = record { read = before-same 0 (omega arith) (m
     before-same : (p : ℕ) → p < 2 → {map : List ℕ} → Before a p n map → Before b p n map
     before-same p h k =
         record {
-          is = k .is ∙ map-same 2048 _ _ n (λ u l. part-enters-same a b u (near u l) u p (omega arith) h (few u p h l));
+          is = k .is ∙ map-same 4096 _ _ n (λ u l. part-enters-same a b u (near u l) u p (omega arith) h (few u p h l));
           narrows = sym (every-same n _ _ (λ u l. part-narrow-same a b u (near u l) u p (omega arith) h (few u p h l))) ∙ k .narrows;
         }
 

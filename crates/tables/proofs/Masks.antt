@@ -1,45 +1,49 @@
 -- The masks of sound tables: each element is one of `.`, `0`, `1` and `*`. A dot is not fixed, and what is `1` is fixed, so it is no dot.
-use Prim.Native.Nat.{ℕ, _<_, _≤_}
+use Prim.Native.Nat.{ℕ, _<_, _≤_, _^_}
 use native.Mathlib.Omega.{arith}
 use mathlib.Core.Path.{_≡_, refl, sym, ap, _∙_}
 use mathlib.Core.Bool.{Bool, true, false, _&&_, _||_, cond, true≢false, false≢true}
 use mathlib.Core.List.{List}
 use lib.Bits.{bitAnd}
 use lib.Dec.{eqb, leb, ltb}
-use borrow.Author.Tests.{eqb-true, eq-eqb, leb-true, ltb-true, ltb-false}
+use borrow.Author.Tests.{eqb-true, eq-eqb, ltb-true, ltb-false}
 use Rattle.bits.specs.Bits.{bit}
+use Rattle.bits.specs.Widths.{isWidth}
 use Rattle.bits.proofs.BitLaws.{bit-over}
 use Rattle.bits.proofs.MaskLaws.{bit-and, bits-apart, bits-inside, bit-none, same-bits}
 use Rattle.tables.specs.Every.{every, zeros}
-use Rattle.tables.specs.Tables.{countOf, RegisterPart, registerPartIn, registerPartOf, registerPart}
+use Rattle.tables.specs.Tables.{countOf, registerWidth, RegisterPart, registerPartIn, registerPartOf, registerPart}
 use Rattle.tables.specs.Rules.{masksFit, registerPartShape, registerShape, parameterShape, variableShape}
 use Rattle.tables.specs.Sound as S
 use Rattle.tables.specs.Sound.{tablesFit, restZero, shapesFit, rulesKept}
-use Rattle.tables.specs.View.{Tables, Part, reading, writing, partNo, sound, registerCount, isDot, isOne, isFixed, obeys}
+use Rattle.tables.specs.View.{Tables, Part, reading, writing, partNo, sound, registerCount, registerWidth as wide, isDot, isOne, isFixed, obeys}
 use Rattle.tables.proofs.Laws.{every-at}
 use Rattle.tables.proofs.ZeroLaws.{zeros-at}
 use Rattle.logic.proofs.Tests.{and-left, and-right}
 
+-- a bit of a number of w bits is below w
+narrow-bit : (w b n : ℕ) → n < 2 ^ w → bit b n ≡ true → b < w
+narrow-bit w b n h on = go (ltb b w) refl
+  where
+    go : (inside : Bool) → ltb b w ≡ inside → b < w
+    go true e = ltb-true b w e
+    go false e = absurd (true≢false (sym on ∙ bit-over w b n h (ltb-false b w e)))
+
 -- the masks of a part of a fitting shape, there or not
-pub record Elements (part : RegisterPart) : Type 0 where
+pub record Elements (w : ℕ) (part : RegisterPart) : Type 0 where
+  pub dot-in-width : (b : ℕ) → bit b (part .dots) ≡ true → b < w
   pub dot-not-fixed : (b : ℕ) → bit b (part .dots) ≡ true → bit b (part .fixed) ≡ false
   pub one-is-fixed : (b : ℕ) → bit b (part .ones) ≡ true → bit b (part .fixed) ≡ true
-  pub fixed-in-byte : (b : ℕ) → bit b (part .fixed) ≡ true → b < 8
+  pub fixed-in-width : (b : ℕ) → bit b (part .fixed) ≡ true → b < w
 
-narrow-bit : (b n : ℕ) → n ≤ 255 → bit b n ≡ true → b < 8
-narrow-bit b n h on = go (ltb b 8) refl
-  where
-    go : (inside : Bool) → ltb b 8 ≡ inside → b < 8
-    go true e = ltb-true b 8 e
-    go false e = absurd (true≢false (sym on ∙ bit-over 8 b n (omega arith) (ltb-false b 8 e)))
-
-by-masks : (part : RegisterPart) → masksFit part ≡ true → Elements part
-by-masks part h =
-    let small = leb (part .dots) 255 && leb (part .fixed) 255 in
+by-masks : (w : ℕ) (part : RegisterPart) → masksFit w part ≡ true → Elements w part
+by-masks w part h =
+    let small = ltb (part .dots) (2 ^ w) && ltb (part .fixed) (2 ^ w) in
     let apart = eqb (bitAnd (part .dots) (part .fixed)) 0 in
     let inside = eqb (bitAnd (part .ones) (part .fixed)) (part .ones) in
     record {
-      fixed-in-byte = λ b. narrow-bit b (part .fixed) (leb-true _ _ (and-right (leb (part .dots) 255) (leb (part .fixed) 255) (and-left small apart (and-left (small && apart) inside h))));
+      dot-in-width = λ b on. narrow-bit w b (part .dots) (ltb-true _ _ (and-left (ltb (part .dots) (2 ^ w)) _ (and-left small apart (and-left (small && apart) inside h)))) on;
+      fixed-in-width = λ b on. narrow-bit w b (part .fixed) (ltb-true _ _ (and-right (ltb (part .dots) (2 ^ w)) (ltb (part .fixed) (2 ^ w)) (and-left small apart (and-left (small && apart) inside h)))) on;
       dot-not-fixed = bits-apart (part .dots) (part .fixed) (eqb-true _ 0 (and-right small apart (and-left (small && apart) inside h)));
       one-is-fixed = bits-inside (part .ones) (part .fixed) (eqb-true _ (part .ones) (and-right (small && apart) inside h));
     }
@@ -47,16 +51,17 @@ by-masks part h =
 no-bit : (b n : ℕ) → n ≡ 0 → bit b n ≡ true → ⊥
 no-bit b n e h = false≢true (sym (bit-none b) ∙ ap (bit b) (sym e) ∙ h)
 
-pub part-elements : (ps rs : List ℕ) (at : ℕ) → registerPartShape ps rs at ≡ true → Elements (registerPartIn rs at)
+pub part-elements : (ps rs : List ℕ) (w at : ℕ) → registerPartShape ps rs w at ≡ true → Elements w (registerPartIn rs at)
 unfolding registerPartShape
-part-elements ps rs at h = go (registerPartIn rs at .present) h
+part-elements ps rs w at h = go (registerPartIn rs at .present) h
   where
-    go : (b : Bool) → cond b (ltb (registerPartIn rs at .parameter) (countOf ps) && masksFit (registerPartIn rs at)) (zeros rs at 6) ≡ true
-        → Elements (registerPartIn rs at)
-    go true e = by-masks (registerPartIn rs at) (and-right (ltb (registerPartIn rs at .parameter) (countOf ps)) _ e)
+    go : (b : Bool) → cond b (ltb (registerPartIn rs at .parameter) (countOf ps) && masksFit w (registerPartIn rs at)) (zeros rs at 6) ≡ true
+        → Elements w (registerPartIn rs at)
+    go true e = by-masks w (registerPartIn rs at) (and-right (ltb (registerPartIn rs at .parameter) (countOf ps)) _ e)
     go false e =
         record {
-          fixed-in-byte = λ b d. absurd (no-bit b _ (zeros-at rs at 6 e 4 (omega arith)) d);
+          dot-in-width = λ b d. absurd (no-bit b _ (zeros-at rs at 6 e 3 (omega arith)) d);
+          fixed-in-width = λ b d. absurd (no-bit b _ (zeros-at rs at 6 e 4 (omega arith)) d);
           dot-not-fixed = λ b d. absurd (no-bit b _ (zeros-at rs at 6 e 3 (omega arith)) d);
           one-is-fixed = λ b d. absurd (no-bit b _ (zeros-at rs at 6 e 5 (omega arith)) d);
         }
@@ -85,24 +90,29 @@ module _ (t : Tables) (ok : sound t ≡ true) where
       let shapes = and-right (restZero ps rs vs) _ (and-left (restZero ps rs vs && shapesFit ps rs vs) (rulesKept ps rs vs) (and-right (tablesFit ps rs vs) _ ok)) in
       every-at (countOf rs) (registerShape ps rs) (and-right a b (and-left (a && b) c shapes)) r l
 
-  pub elements : (part : Part) (r : ℕ) → r < registerCount t → Elements (registerPartOf (t .registers) (partNo part) r)
+  pub elements : (part : Part) (r : ℕ) → r < registerCount t → Elements (registerWidth (t .registers) r) (registerPartOf (t .registers) (partNo part) r)
   unfolding registerShape
   elements part r l = pick part
     where
       shape : ℕ → Bool
-      shape p = registerPartShape (t .parameters) (t .registers) (registerPart r p)
+      shape p = registerPartShape (t .parameters) (t .registers) (registerWidth (t .registers) r) (registerPart r p)
 
       both : (shape 0 && shape 1) ≡ true
-      both = and-left (shape 0 && shape 1) (registerPartOf (t .registers) 0 r .present || registerPartOf (t .registers) 1 r .present) (register-shape r l)
+      both = and-left (shape 0 && shape 1) (registerPartOf (t .registers) 0 r .present || registerPartOf (t .registers) 1 r .present) (and-right (isWidth (registerWidth (t .registers) r)) _ (register-shape r l))
 
-      pick : (part : Part) → Elements (registerPartOf (t .registers) (partNo part) r)
-      pick reading = part-elements (t .parameters) (t .registers) (registerPart r 0) (and-left (shape 0) (shape 1) both)
-      pick writing = part-elements (t .parameters) (t .registers) (registerPart r 1) (and-right (shape 0) (shape 1) both)
+      pick : (part : Part) → Elements (registerWidth (t .registers) r) (registerPartOf (t .registers) (partNo part) r)
+      pick reading = part-elements (t .parameters) (t .registers) (registerWidth (t .registers) r) (registerPart r 0) (and-left (shape 0) (shape 1) both)
+      pick writing = part-elements (t .parameters) (t .registers) (registerWidth (t .registers) r) (registerPart r 1) (and-right (shape 0) (shape 1) both)
+
+  -- a dot is a bit of its register
+  pub dot-inside : (part : Part) (r b : ℕ) → r < registerCount t → isDot t part r b ≡ true → b < wide t r
+  unfolding isDot wide
+  dot-inside part r b l on = elements part r l .dot-in-width b on
 
   -- a fixed bit is a bit of the register, and no dot
-  pub fixed-inside : (part : Part) (r b : ℕ) → r < registerCount t → isFixed t part r b ≡ true → b < 8
-  unfolding isFixed
-  fixed-inside part r b l on = elements part r l .fixed-in-byte b on
+  pub fixed-inside : (part : Part) (r b : ℕ) → r < registerCount t → isFixed t part r b ≡ true → b < wide t r
+  unfolding isFixed wide
+  fixed-inside part r b l on = elements part r l .fixed-in-width b on
 
   pub fixed-no-dot : (part : Part) (r b : ℕ) → r < registerCount t → isFixed t part r b ≡ true → isDot t part r b ≡ false
   unfolding isFixed isDot

@@ -5,14 +5,15 @@ use native.Mathlib.Omega.{arith}
 use mathlib.Core.Path.{_≡_, refl, sym, ap, ap₂, _∙_}
 use mathlib.Core.Bool.{Bool, true, false, _&&_, _||_, cond}
 use mathlib.Core.List.{List, [], _∷_, _++_}
-use lib.Dec.{eqb, leb}
+use lib.Dec.{eqb, leb, ltb}
 use lib.ListN.{getD, length}
 use borrow.Author.Tests.{leb-true}
+use Rattle.bits.specs.Widths.{isWidth, widest}
 use Rattle.tables.specs.Every.{every, zeros}
 use Rattle.tables.specs.Marks.{distinct, joined, meets}
 use Rattle.tables.specs.Tables.{bitsOf, kindOf, mentionedBy, parameterAt, pieceAt, pieceBits, pieceIn, rangeAt, rangeCount, rangeIn, registerAt, registerPart, registerPartIn, registerPartOf, variableAt, variablePart, variablePartIn, volatileOf, widthOf}
 use Rattle.tables.specs.Words.{pieceCount, pieceHigh, pieceRegister, present, triggerOf}
-use Rattle.tables.specs.Rules.{clashes, mappedBefore, ownFault, parameterFault, parameterShape, partMaps, pieceFits, placeTaken, placed, rangeFits, rangesFit, registerFault, registerPartShape, registerShape, toldApart, triggerShared, typeFits, variableFault, variablePartShape, variableShape, volatileFits, widthFits}
+use Rattle.tables.specs.Rules.{asWide, clashes, mappedBefore, ownFault, parameterFault, parameterShape, partMaps, pieceFits, placeTaken, placed, rangeFits, rangesFit, registerFault, registerPartShape, registerShape, toldApart, triggerShared, typeFits, variableFault, variablePartShape, variableShape, volatileFits, widthFits, widthKept}
 use Rattle.tables.specs.Scan.{entersOf, narrow, pieceEnters}
 use Rattle.tables.specs.Sound.{parameterGood, registerGood, variableGood}
 use Rattle.tables.proofs.Laws.{every-same, some-same}
@@ -56,7 +57,7 @@ module _ (a b : List ℕ) (i : ℕ) (same : Alike (parameterAt (suc i)) a b) whe
   unfolding parameterFault parameterShape
   parameter-fault-same shape =
       let few = leb-true (rangeCount b i) 16 (and-left (leb (rangeCount b i) 16) _ shape) in
-      ap₂ (λ (r : Bool) (w : ℕ). cond r (cond (eqb w 8) 0 12) 8) (ranges-same few) (word-i 2 (omega arith))
+      ap₂ (λ (r : Bool) (w : ℕ). cond r (cond (isWidth w) 0 12) 8) (ranges-same few) (word-i 2 (omega arith))
 
   pub parameter-same : parameterGood a i ≡ parameterGood b i
   unfolding parameterGood
@@ -73,9 +74,12 @@ module _ (ps a b : List ℕ) (i : ℕ) (same : Alike (registerAt (suc i)) a b) w
   part-present : (j p : ℕ) → j ≤ i → p < 2 → getD a (registerPart j p) 0 ≡ getD b (registerPart j p) 0
   part-present j p l h = same (registerPart j p) (omega arith) (omega arith)
 
-  part-shape-same : (p : ℕ) → p < 2 → registerPartShape ps a (registerPart i p) ≡ registerPartShape ps b (registerPart i p)
+  wide-same : getD a (registerAt i + 2) 0 ≡ getD b (registerAt i + 2) 0
+  wide-same = same (registerAt i + 2) (omega arith) (omega arith)
+
+  part-shape-same : (w p : ℕ) → p < 2 → registerPartShape ps a w (registerPart i p) ≡ registerPartShape ps b w (registerPart i p)
   unfolding registerPartShape
-  part-shape-same p h =
+  part-shape-same w p h =
       rw (
         part-present i p (omega arith) h,
         part-word i p 1 (omega arith) h (omega arith),
@@ -88,7 +92,7 @@ module _ (ps a b : List ℕ) (i : ℕ) (same : Alike (registerAt (suc i)) a b) w
   pub register-shape-same : registerShape ps a i ≡ registerShape ps b i
   unfolding registerShape
   register-shape-same =
-      rw (part-shape-same 0 (omega arith), part-shape-same 1 (omega arith), part-present i 0 (omega arith) (omega arith), part-present i 1 (omega arith) (omega arith))
+      rw (wide-same, part-shape-same _ 0 (omega arith), part-shape-same _ 1 (omega arith), part-present i 0 (omega arith) (omega arith), part-present i 1 (omega arith) (omega arith))
 
   placed-same : (p : ℕ) → p < 2 → placed ps (registerPartIn a (registerPart i p)) ≡ placed ps (registerPartIn b (registerPart i p))
   unfolding placed
@@ -118,6 +122,14 @@ module _ (ps a b : List ℕ) (i : ℕ) (same : Alike (registerAt (suc i)) a b) w
       (some-same i (λ j. clashes p (registerPartOf a p i) (registerPartOf a p j)) (λ j. clashes p (registerPartOf b p i) (registerPartOf b p j))
       (λ j l. clash-same j p (omega arith) h))
 
+  as-wide-same : (w p : ℕ) → p < 2 → asWide ps (registerPartIn a (registerPart i p)) w ≡ asWide ps (registerPartIn b (registerPart i p)) w
+  unfolding asWide
+  as-wide-same w p h = rw (part-present i p (omega arith) h, part-word i p 1 (omega arith) h (omega arith))
+
+  kept-same : widthKept ps a i ≡ widthKept ps b i
+  unfolding widthKept
+  kept-same = rw (wide-same, as-wide-same _ 0 (omega arith), as-wide-same _ 1 (omega arith))
+
   pub register-fault-same : registerFault ps a i ≡ registerFault ps b i
   unfolding registerFault
   register-fault-same =
@@ -126,7 +138,7 @@ module _ (ps a b : List ℕ) (i : ℕ) (same : Alike (registerAt (suc i)) a b) w
         placed-same 1 (omega arith),
         taken-same 0 (omega arith),
         taken-same 1 (omega arith),
-        same (registerAt i + 2) (omega arith) (omega arith),
+        kept-same,
       )
 
   pub register-same : registerGood ps a i ≡ registerGood ps b i
@@ -227,14 +239,14 @@ module _ (a b : List ℕ) (v : ℕ) (same : Alike (variableAt (suc v)) a b) wher
 
     pub part-narrow-same : narrow (variablePartIn a at) ≡ narrow (variablePartIn b at)
     part-narrow-same =
-        ap (λ (n : ℕ). every n (λ k. leb (pieceHigh a (pieceAt at k)) 7)) (own-word u p 2 l h (omega arith))
-        ∙ every-same (pieceCount b at) _ _ (λ n m. ap (λ (w : ℕ). leb w 7) (piece-word u p n 1 l h (omega arith) (omega arith)))
+        ap (λ (n : ℕ). every n (λ k. ltb (pieceHigh a (pieceAt at k)) widest)) (own-word u p 2 l h (omega arith))
+        ∙ every-same (pieceCount b at) _ _ (λ n m. ap (λ (w : ℕ). ltb w widest) (piece-word u p n 1 l h (omega arith) (omega arith)))
 
     part-maps-same : (rs : List ℕ) → partMaps rs p (variablePartIn a at) ≡ partMaps rs p (variablePartIn b at)
     unfolding partMaps pieceFits
     part-maps-same rs =
         let pieces : ℕ → List ℕ → Bool = λ n t. every n (λ k. pieceFits rs p (pieceIn t (pieceAt at k))) in
-        ap₂ (λ (f : Bool) (bits : List ℕ). f && distinct bits && leb (length bits) 32)
+        ap₂ (λ (f : Bool) (bits : List ℕ). f && distinct bits && leb (length bits) widest)
         (ap (λ (n : ℕ). pieces n a) (own-word u p 2 l h (omega arith))
         ∙ every-same (pieceCount b at) _ _ (λ n m.
         rw (piece-register u p n l h (omega arith), piece-word u p n 1 l h (omega arith) (omega arith), piece-word u p n 2 l h (omega arith) (omega arith))))

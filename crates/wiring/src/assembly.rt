@@ -1,6 +1,7 @@
 // The numbers made bit by bit: the byte to write, the value with one more byte read into it, and what may have been gathered.
 ghost use mathlib.Core.Path.{_≡_};
 ghost use Prim.Native.Nat.{_≤_};
+ghost use Rattle.bits.specs.Widths.{widest};
 ghost use Rattle.wiring.specs.Pieces.{Usable};
 ghost use Rattle.wiring.specs.Assembly.{writtenBit, gatheredBit, keptBit, bitBy, assembled};
 use crate::BitList;
@@ -100,7 +101,7 @@ fn bit_by(variables: &[u32], part: BitList, rule: Rule, b: usize) -> bool
 // The number that a rule makes, over `width` bits.
 pub fn assemble(variables: &[u32], part: BitList, rule: Rule, width: usize) -> usize
     requires { ⌜ Usable part ⌝ }
-    requires { ⌜ width ≤ 32 ⌝ }
+    requires { ⌜ width ≤ widest ⌝ }
     ensures { λ a. ⌜ a ≡ assembled (now (variables .entry)) part rule width ⌝ }
 {
     let mut total: usize = 0;

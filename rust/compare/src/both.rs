@@ -23,10 +23,10 @@ pub fn lent(set: &TableSet) -> Tables<'_> {
 /// A record, marks, and how much of each is lent.
 pub struct Both {
     pub tables: TableSet,
-    record: Vec<u8>,
+    record: Vec<u32>,
     marks: Vec<u8>,
     operation: Operation,
-    proved_record: Vec<u8>,
+    proved_record: Vec<u32>,
     proved_marks: Vec<u8>,
     proved_operation: Vec<u64>,
     lent_record: usize,
@@ -37,7 +37,7 @@ impl Both {
     /// A station with a record and marks of these lengths. They hold anything at first, as what
     /// lies behind the operation's words does.
     pub fn new(random: &mut Random, tables: TableSet, record: usize, marks: usize) -> Both {
-        let record: Vec<u8> = (0..record).map(|_| random.byte()).collect();
+        let record: Vec<u32> = (0..record).map(|_| random.number() as u32).collect();
         let marks: Vec<u8> = (0..marks).map(|_| random.byte() % 3).collect();
         let mut proved_operation = vec![0; OPERATION_WORDS];
         proved_operation.extend((0..GUARD).map(|_| random.number()));
@@ -106,12 +106,12 @@ impl Both {
         let marks = &mut self.marks[..self.lent_marks];
         let operation = &mut self.operation;
         match call {
-            Call::Open(bytes) => second::open(tables, bytes, record, marks, operation),
+            Call::Open(power) => second::open(tables, power, record, marks, operation),
             Call::Read(v) => second::begin_read(tables, record, marks, operation, *v),
             Call::Write(v, value) => {
                 second::begin_write(tables, record, marks, operation, *v, *value)
             }
-            Call::Confirm(byte) => second::confirm(tables, record, marks, operation, *byte),
+            Call::Confirm(number) => second::confirm(tables, record, marks, operation, *number),
             _ => second::abandon(tables, record, marks, operation),
         }
     }
@@ -123,13 +123,13 @@ impl Both {
         let operation = &mut self.proved_operation[..];
         let mut words = [-77; ANSWER_WORDS + GUARD];
         let number = match call {
-            Call::Open(bytes) => raw::open(tables, bytes, record, marks, operation, &mut words),
+            Call::Open(power) => raw::open(tables, power, record, marks, operation, &mut words),
             Call::Read(v) => raw::begin_read(tables, record, marks, operation, *v, &mut words),
             Call::Write(v, value) => {
                 raw::begin_write(tables, record, marks, operation, *v, *value, &mut words)
             }
-            Call::Confirm(byte) => {
-                raw::confirm(tables, record, marks, operation, *byte, &mut words)
+            Call::Confirm(number) => {
+                raw::confirm(tables, record, marks, operation, *number, &mut words)
             }
             _ => raw::abandon(tables, record, marks, operation, &mut words),
         };

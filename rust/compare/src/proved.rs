@@ -102,7 +102,7 @@ pub fn answer_of(words: &[i64; ANSWER_WORDS]) -> Answer {
     match *words {
         [0, refusal, 0, 0, 0] => Answer::Refused(u8::try_from(refusal).expect("a refusal")),
         [1, 0, 0, 0, 0] => Answer::Opened,
-        [2, direction, parameter, offset, byte] => Answer::Offer(Access {
+        [2, direction, parameter, offset, written] => Answer::Offer(Access {
             direction: match direction {
                 0 => Part::Read,
                 1 => Part::Write,
@@ -110,7 +110,7 @@ pub fn answer_of(words: &[i64; ANSWER_WORDS]) -> Answer {
             },
             parameter: number(parameter),
             offset: u32::try_from(offset).expect("an offset"),
-            byte: u8::try_from(byte).expect("a byte"),
+            number: u32::try_from(written).expect("a number of a register"),
         }),
         [3, value, accesses, 0, 0] => Answer::Done {
             value,

@@ -18,10 +18,10 @@ impl Seen {
         match answer {
             Answer::Refused(number) => self.note(format!("refused {number:02}")),
             Answer::Contradicted { .. } => self.note("refused 52"),
-            other => {
-                let line = other.to_string();
-                self.note(line.split(' ').next().unwrap_or_default());
-            }
+            Answer::Opened => self.note("opened"),
+            Answer::Offer(_) => self.note("offer"),
+            Answer::Done { .. } => self.note("done"),
+            Answer::Abandoned => self.note("abandoned"),
         }
     }
 

@@ -37,7 +37,7 @@ fn answered(answer: desfanuk::Answer) -> Answer {
             },
             parameter: access.parameter,
             offset: u32::from(access.offset),
-            byte: access.byte,
+            number: access.number,
         }),
         desfanuk::Answer::Done { value, accesses } => Answer::Done { value, accesses },
         desfanuk::Answer::Refused(refusal) => refused(refusal),
@@ -46,7 +46,7 @@ fn answered(answer: desfanuk::Answer) -> Answer {
 }
 
 impl Calls for Station<'_> {
-    fn open(&mut self, power: &[u8]) -> Answer {
+    fn open(&mut self, power: &[u32]) -> Answer {
         let opened = match &mut self.opened {
             Some(station) => station.open_again(power),
             None => desfanuk::Station::open(self.description, power)
@@ -63,8 +63,8 @@ impl Calls for Station<'_> {
         answered(self.station().begin_write(variable, value))
     }
 
-    fn confirm(&mut self, byte: u8) -> Answer {
-        answered(self.station().confirm(byte))
+    fn confirm(&mut self, number: u32) -> Answer {
+        answered(self.station().confirm(number))
     }
 
     fn abandon(&mut self) -> Answer {

@@ -2,7 +2,7 @@
 
 use compare::seen::Seen;
 use compare::station::Station;
-use second::board::{plain, some_value, to_its_end, watch, Board, Calls, Ended};
+use second::board::{plain, power_on, some_value, to_its_end, watch, Board, Calls, Ended};
 use second::generate::{valid, Random};
 use second::{load, Answer, Description, Verdict};
 
@@ -14,10 +14,6 @@ fn described(random: &mut Random) -> (Description, desfanuk::Description) {
     };
     let proved = desfanuk::Description::load(text).expect("by both");
     (description, proved)
-}
-
-fn some_bytes(random: &mut Random, count: usize) -> Vec<u8> {
-    (0..count).map(|_| random.byte()).collect()
 }
 
 /// "Reading a plain variable gives the value last finished for it, or its power-on bits if none was,
@@ -45,8 +41,12 @@ fn reading_gives_the_value_last_finished() {
         1000,
     );
     seen.require(
-        "those of shared places, and contradictions",
-        ["from a shared place", "contradicted"],
+        "those of shared places and of wide registers, and contradictions",
+        [
+            "from a shared place",
+            "from a wide register",
+            "contradicted",
+        ],
         100,
     );
     seen.require("those that must succeed", ["under the premise"], 1000);
@@ -66,7 +66,7 @@ fn boards_end_equal_exactly_when_the_values_are() {
         if order.is_empty() {
             continue;
         }
-        let power = some_bytes(&mut random, description.registers.len());
+        let power = power_on(&mut random, &description);
         let first: Vec<i64> = description
             .variables
             .iter()

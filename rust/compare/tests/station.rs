@@ -5,7 +5,9 @@ use compare::both::{lent, Both};
 use compare::proved;
 use compare::seen::Seen;
 use desfanuk::raw::{self, ANSWER_WORDS};
-use second::generate::{damaged_tables, every_step, run, sound_tables, valid, Random, TableSet};
+use second::generate::{
+    damaged_tables, every_step, run, some_number, sound_tables, valid, Random, TableSet,
+};
 use second::replay::Call;
 use second::{load, tables, Answer, Description, Operation, Verdict};
 
@@ -103,11 +105,11 @@ fn some_call(random: &mut Random, set: &TableSet) -> Call {
     match random.below(12) {
         0 | 1 => {
             let length = registers.saturating_sub(1) + random.below(3);
-            Call::Open((0..length).map(|_| random.byte()).collect())
+            Call::Open((0..length).map(|_| some_number(random)).collect())
         }
         2 | 3 => Call::Read(variable),
         4 | 5 => Call::Write(variable, random.below(6) as i64 - 2),
-        6..=8 => Call::Confirm(random.byte()),
+        6..=8 => Call::Confirm(some_number(random)),
         9 => Call::Abandon,
         10 => Call::LendRecord(Some(registers.saturating_sub(1) + random.below(3))),
         _ => Call::LendMarks(Some(variables.saturating_sub(1) + random.below(3))),

@@ -8,14 +8,14 @@
 use std::error::Error;
 use std::{env, fs};
 
-use desfanuk::{Access, Description, Direction, Done, Ports, Station, Stopped};
+use desfanuk::{Access, Description, Direction, Done, Number, Ports, Station, Stopped};
 
 const SCORING: &str = concat!(env!("CARGO_MANIFEST_DIR"), "/../../boards/scoring.devil");
 
 /// The board: a byte for each offset, how many accesses it still answers, and whether its cable is
 /// in. It notes what happens.
 struct Board {
-    bytes: [u8; 4],
+    bytes: [Number; 4],
     patience: usize,
     is_plugged: bool,
     notes: String,
@@ -27,12 +27,12 @@ struct TimedOut;
 impl Ports for Board {
     type Failure = TimedOut;
 
-    fn perform(&mut self, access: Access) -> Result<u8, TimedOut> {
+    fn perform(&mut self, access: Access) -> Result<Number, TimedOut> {
         if self.patience == 0 {
             return Err(TimedOut);
         }
         self.patience -= 1;
-        let Access { offset, byte, .. } = access;
+        let Access { offset, number, .. } = access;
         let cell = &mut self.bytes[usize::from(offset)];
         if !self.is_plugged {
             *cell = 0xFF;
@@ -40,8 +40,8 @@ impl Ports for Board {
         self.notes += &match access.direction {
             Direction::Read => format!("  read at base + {offset}: 0x{cell:02X}\n"),
             Direction::Write => {
-                *cell = byte;
-                format!("  write 0x{byte:02X} at base + {offset}\n")
+                *cell = number;
+                format!("  write 0x{number:02X} at base + {offset}\n")
             }
         };
         Ok(*cell)

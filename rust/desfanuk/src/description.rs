@@ -5,7 +5,7 @@ use std::fmt;
 use std::ops::RangeInclusive;
 
 use crate::raw::{self, PARAMETERS_WORDS, REGISTERS_WORDS, VARIABLES_WORDS, VERDICT_WORDS};
-use crate::Refusal;
+use crate::{Number, Refusal};
 
 /// Words of an entry of each table; its name's place and length come first.
 const PARAMETER_ENTRY: usize = 36;
@@ -220,6 +220,17 @@ impl Description {
         self.name(&self.tables.variables, VARIABLE_ENTRY, index)
     }
 
+    /// How many bits the port of a parameter has, if there is one of this index: 8, 16 or 32, as all
+    /// its registers have. An access of it carries so many.
+    pub fn port_width(&self, parameter: usize) -> Option<usize> {
+        width(&self.tables.parameters, PARAMETER_ENTRY, parameter)
+    }
+
+    /// How many bits a register has, if there is one of this index: 8, 16 or 32.
+    pub fn register_width(&self, register: usize) -> Option<usize> {
+        width(&self.tables.registers, REGISTER_ENTRY, register)
+    }
+
     /// The values that a variable's type has, from the least to the greatest, if there is a variable
     /// of this index. A write of another value is refused: below the least by 27, above the greatest
     /// by 55.
@@ -236,16 +247,15 @@ impl Description {
         }
     }
 
-    /// The bits of a byte that are not what a register's read mask has fixed, if there is a register
-    /// of this index and it can be read. A read that brings such a byte is refused by 52.
-    pub fn contradicting(&self, register: usize, byte: u8) -> Option<u8> {
+    /// The bits of a number that are not what a register's read mask has fixed, if there is a register
+    /// of this index and it can be read. A read that brings such a number is refused by 52.
+    pub fn contradicting(&self, register: usize, number: Number) -> Option<Number> {
         if register >= self.registers() {
             return None;
         }
         let [has, fixed, ones] =
             [4, 8, 9].map(|word| self.tables.registers[REGISTER_ENTRY * register + word]);
-        let bits = (u32::from(byte) & fixed) ^ ones;
-        (has == 1).then_some(u8::try_from(bits).expect("bits of a byte"))
+        (has == 1).then_some((number & fixed) ^ ones)
     }
 
     fn name(&self, table: &[u32], entry: usize, index: usize) -> Option<&str> {
@@ -257,4 +267,9 @@ impl Description {
         let name = &self.text[place..place + length];
         Some(std::str::from_utf8(name).expect("a name is letters, digits and underscores"))
     }
+}
+
+/// The width of an entry, which is the word behind its name's.
+fn width(table: &[u32], entry: usize, index: usize) -> Option<usize> {
+    (index < table[0] as usize).then(|| table[3 + entry * index] as usize)
 }

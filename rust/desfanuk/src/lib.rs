@@ -3,7 +3,7 @@
 //!
 //! A board maker's description is loaded ([`Description::load`]): it is accepted with its
 //! variables, or refused with the number of the first rule broken and its place. A station is
-//! opened over it ([`Station::open`]) with the bytes that the board's registers hold at power-on.
+//! opened over it ([`Station::open`]) with the numbers that the board's registers hold at power-on.
 //! From then on each read or write of a variable is a run of port accesses, offered one at a time:
 //! the station performs the access on offer and confirms it, or abandons the operation. An
 //! operation is done at its last confirmation and never sooner, and a variable whose write was
@@ -22,18 +22,18 @@
 //! }";
 //! let description = Description::load(text).expect("a good description");
 //! let score = description.variable("score").expect("it has a score");
-//! let mut station = Station::open(&description, &[0, 0]).expect("a byte for each register");
+//! let mut station = Station::open(&description, &[0, 0]).expect("a number for each register");
 //!
 //! // Writing the score takes two accesses, the high register first.
-//! let high = Access { direction: Direction::Write, parameter: 0, offset: 0, byte: 0x0A };
-//! let low = Access { direction: Direction::Write, parameter: 0, offset: 1, byte: 0xB5 };
+//! let high = Access { direction: Direction::Write, parameter: 0, offset: 0, number: 0x0A };
+//! let low = Access { direction: Direction::Write, parameter: 0, offset: 1, number: 0xB5 };
 //! assert_eq!(station.begin_write(score, 0xAB5), Answer::Offer(high));
 //! assert_eq!(station.confirm(0), Answer::Offer(low));
 //! assert_eq!(station.confirm(0), Answer::Done { value: 0xAB5, accesses: 2 });
 //!
 //! // A write that stops midway leaves nothing that could be taken for a score.
-//! assert_eq!(station.begin_write(score, 7), Answer::Offer(Access { byte: 0, ..high }));
-//! assert_eq!(station.confirm(0), Answer::Offer(Access { byte: 7, ..low }));
+//! assert_eq!(station.begin_write(score, 7), Answer::Offer(Access { number: 0, ..high }));
+//! assert_eq!(station.confirm(0), Answer::Offer(Access { number: 7, ..low }));
 //! assert_eq!(station.abandon(), Ok(()));
 //! assert_eq!(station.begin_read(score), Answer::Refused(Refusal::HalfWritten));
 //! ```
@@ -55,5 +55,5 @@ pub mod raw;
 pub use description::{Description, Refused, Tables, Verdict};
 pub use pieces::Pieces;
 pub use refusal::Refusal;
-pub use station::{Access, Answer, Direction, Operation, Station};
+pub use station::{Access, Answer, Direction, Number, Operation, Station};
 pub use through::{Contradiction, Done, Outside, Ports, Stopped};

@@ -148,8 +148,8 @@ calls! {
         parameters: &[u32],
         registers: &[u32],
         variables: &[u32],
-        power: &[u8],
-        held: &mut [u8],
+        power: &[u32],
+        held: &mut [u32],
         marks: &mut [u8],
         operation: &mut [u64],
         answer: &mut [i64],
@@ -160,7 +160,7 @@ calls! {
         parameters: &[u32],
         registers: &[u32],
         variables: &[u32],
-        held: &[u8],
+        held: &[u32],
         marks: &[u8],
         operation: &mut [u64],
         variable: usize,
@@ -172,7 +172,7 @@ calls! {
         parameters: &[u32],
         registers: &[u32],
         variables: &[u32],
-        held: &[u8],
+        held: &[u32],
         marks: &[u8],
         operation: &mut [u64],
         variable: usize,
@@ -180,15 +180,15 @@ calls! {
         answer: &mut [i64],
     ) -> u64;
 
-    /// Confirms the access on offer; the byte is what was read, and for a write it is ignored.
+    /// Confirms the access on offer; the number is what was read, and for a write it is ignored.
     pub confirm: fn desfanuk_confirm(
         parameters: &[u32],
         registers: &[u32],
         variables: &[u32],
-        held: &mut [u8],
+        held: &mut [u32],
         marks: &mut [u8],
         operation: &mut [u64],
-        byte: u8,
+        number: u32,
         answer: &mut [i64],
     ) -> u64;
 
@@ -197,7 +197,7 @@ calls! {
         parameters: &[u32],
         registers: &[u32],
         variables: &[u32],
-        held: &[u8],
+        held: &[u32],
         marks: &mut [u8],
         operation: &mut [u64],
         answer: &mut [i64],

@@ -45,15 +45,16 @@ refusals! {
     Undeclared = 7, "a port names no parameter, or a piece no register, declared earlier";
     Offset = 8, "an offset divides by zero, leaves the range of 32 bits, or is not in the \
         parameter's set; in a parameter, an offset over 255 or a range going down";
-    Ports = 9, "a bad pairing of ports; a mask that has not 8 elements; two masks for one part; a \
-        mask for a missing part";
+    Ports = 9, "a bad pairing of ports; a mask that has not as many elements as the register's \
+        stated width; two masks for one part; a mask for a missing part";
     Place = 10, "the part's parameter and offset already serve that part of an earlier register; \
         of two write parts, unless some bit is fixed 0 in one mask and 1 in the other";
-    Bits = 11, "a bit over 7; a rising range; a bit twice in one part; a bit that is not a dot in \
-        that part's mask; a register without that part; a bad pairing of bit lists; a bare list \
-        with neither part; over 32 bits";
-    Width = 12, "the width of a parameter or register is not 8; a type's width is unlike the bits; \
-        the parts' widths differ; a `bool` has not one bit";
+    Bits = 11, "a bit from the register's width up; a rising range; a bit twice in one part; a bit \
+        that is not a dot in that part's mask; a register without that part; a bad pairing of bit \
+        lists; a bare list with neither part; over 32 bits";
+    Width = 12, "the width of a parameter or register is not 8, 16 or 32; a register's is not that \
+        of the parameter of each of its ports; a type's width is unlike the bits; the parts' widths \
+        differ; a `bool` has not one bit";
     Behaviour = 13, "`volatile` or `trigger` is repeated for a part, or given for a missing part";
     Mapped = 14, "a bit is already mapped in that part by an earlier variable";
     Trigger = 15, "a register part holds bits of two variables, at least one of them trigger for \
@@ -71,7 +72,7 @@ refusals! {
     NoPart = 26, "the variable has not that part";
     TooLow = 27, "the value is below the least of the variable's type";
     HalfWritten = 28, "the variable is half-written";
-    Contradicted = 52, "the byte read differs from a fixed bit of its register's read mask";
+    Contradicted = 52, "the number read differs from a fixed bit of its register's read mask";
     TooHigh = 55, "the value is above the greatest of the variable's type";
 }
 

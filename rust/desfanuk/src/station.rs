@@ -10,6 +10,10 @@ pub enum Direction {
     Write,
 }
 
+/// The number that a register holds or an access carries: 8, 16 or 32 bits, as the register has
+/// ([`Description::register_width`]). In one that is handed in, bits above the width count as 0.
+pub type Number = u32;
+
 /// One port access.
 #[derive(Clone, Copy, Debug, PartialEq, Eq)]
 pub struct Access {
@@ -18,8 +22,8 @@ pub struct Access {
     pub parameter: usize,
     /// The offset from that port.
     pub offset: u8,
-    /// The byte to write; 0 when reading.
-    pub byte: u8,
+    /// The number to write; 0 when reading.
+    pub number: Number,
 }
 
 /// What a begin or a confirmation answers.
@@ -32,8 +36,8 @@ pub enum Answer {
     Done { value: i64, accesses: usize },
     /// Nothing changed, and nothing is offered.
     Refused(Refusal),
-    /// The byte that was read contradicts the fixed bits of this register, by its index: refused by 52
-    /// ([`Refusal::Contradicted`]), and the read is over, without a value. Nothing else changed.
+    /// The number that was read contradicts the fixed bits of this register, by its index: refused by
+    /// 52 ([`Refusal::Contradicted`]), and the read is over, without a value. Nothing else changed.
     Contradicted { register: usize },
 }
 
@@ -58,15 +62,15 @@ pub enum Operation {
 #[derive(Clone, Debug)]
 pub struct Station<'d> {
     description: &'d Description,
-    record: Vec<u8>,
+    record: Vec<Number>,
     marks: Vec<u8>,
     operation: [u64; OPERATION_WORDS],
 }
 
 impl<'d> Station<'d> {
-    /// Opens a description with the byte that each register holds at power-on. Fewer bytes than
+    /// Opens a description with the number that each register holds at power-on. Fewer numbers than
     /// registers are refused by 21; what is over is ignored.
-    pub fn open(description: &'d Description, power_on: &[u8]) -> Result<Station<'d>, Refusal> {
+    pub fn open(description: &'d Description, power_on: &[Number]) -> Result<Station<'d>, Refusal> {
         let mut station = Station {
             description,
             record: vec![0; description.registers()],
@@ -79,7 +83,7 @@ impl<'d> Station<'d> {
 
     /// Opens it anew, as after the board was switched off and on: ends the operation in hand and
     /// clears every mark. Refused as [`Station::open`] is.
-    pub fn open_again(&mut self, power_on: &[u8]) -> Result<(), Refusal> {
+    pub fn open_again(&mut self, power_on: &[Number]) -> Result<(), Refusal> {
         let mut answer = [0; ANSWER_WORDS];
         raw::open(
             self.description.tables().words(),
@@ -122,16 +126,16 @@ impl<'d> Station<'d> {
         answered(answer)
     }
 
-    /// Confirms that the access on offer was performed, once. The byte is what was read, and its fixed
-    /// bits must be as the register's read mask has them; for a write it is ignored.
-    pub fn confirm(&mut self, byte: u8) -> Answer {
+    /// Confirms that the access on offer was performed, once. The number is what was read, and its
+    /// fixed bits must be as the register's read mask has them; for a write it is ignored.
+    pub fn confirm(&mut self, number: Number) -> Answer {
         let mut answer = [0; ANSWER_WORDS];
         raw::confirm(
             self.description.tables().words(),
             &mut self.record,
             &mut self.marks,
             &mut self.operation,
-            byte,
+            number,
             &mut answer,
         );
         answered(answer)
@@ -156,8 +160,8 @@ impl<'d> Station<'d> {
         self.description
     }
 
-    /// For each register the byte last confirmed as written, or else its power-on byte.
-    pub fn record(&self) -> &[u8] {
+    /// For each register the number last confirmed as written, or else its power-on number.
+    pub fn record(&self) -> &[Number] {
         &self.record
     }
 
@@ -202,7 +206,6 @@ fn answered(words: [i64; ANSWER_WORDS]) -> Answer {
     if let Err(refusal) = unless_refused(words) {
         return Answer::Refused(refusal);
     }
-    let byte = |word: i64| u8::try_from(word).expect("a byte");
     let number = |word: i64| usize::try_from(word).expect("a number of an answer");
     match words {
         [2, direction, parameter, offset, written] => Answer::Offer(Access {
@@ -212,8 +215,8 @@ fn answered(words: [i64; ANSWER_WORDS]) -> Answer {
                 Direction::Write
             },
             parameter: number(parameter),
-            offset: byte(offset),
-            byte: byte(written),
+            offset: u8::try_from(offset).expect("an offset"),
+            number: Number::try_from(written).expect("a number of a register"),
         }),
         [3, value, accesses, 0, 0] => Answer::Done {
             value,

@@ -3,15 +3,15 @@
 use std::error::Error;
 use std::fmt;
 
-use crate::{Access, Answer, Refusal, Station};
+use crate::{Access, Answer, Number, Refusal, Station};
 
 /// What performs accesses: the station's own way to its ports.
 pub trait Ports {
     /// Why an access was not performed, or was perhaps not performed, as after a time-out.
     type Failure;
 
-    /// Performs an access, once. Gives the byte that was read; for a write any byte does.
-    fn perform(&mut self, access: Access) -> Result<u8, Self::Failure>;
+    /// Performs an access, once. Gives the number that was read; for a write any number does.
+    fn perform(&mut self, access: Access) -> Result<Number, Self::Failure>;
 }
 
 /// A read or write that is done.
@@ -55,28 +55,36 @@ impl fmt::Display for Outside {
 
 impl Error for Outside {}
 
-/// A byte that was read and contradicts its register, and the bits of it that do.
+/// A number that was read and contradicts its register, and the bits of it that do.
 #[derive(Clone, Debug, PartialEq, Eq)]
 pub struct Contradiction {
     /// The register's index.
     pub register: usize,
     /// Its name in the text.
     pub name: String,
-    pub byte: u8,
-    /// The bits at which the byte is not what the register's read mask has fixed.
-    pub bits: u8,
+    /// How many bits the register has.
+    pub width: usize,
+    /// What was read, without bits above the width.
+    pub number: Number,
+    /// The bits at which the number is not what the register's read mask has fixed.
+    pub bits: Number,
 }
 
 impl fmt::Display for Contradiction {
     fn fmt(&self, f: &mut fmt::Formatter<'_>) -> fmt::Result {
         let Contradiction {
-            name, byte, bits, ..
+            name,
+            width,
+            number,
+            bits,
+            ..
         } = self;
-        let number = Refusal::Contradicted.number();
-        write!(f, "refused ({number}): {name} gave 0x{byte:02X}")?;
+        let refusal = Refusal::Contradicted.number();
+        let digits = width / 4;
+        write!(f, "refused ({refusal}): {name} gave 0x{number:0digits$X}")?;
         let mut link = ": bit";
-        for bit in (0..8).rev().filter(|bit| bits >> bit & 1 == 1) {
-            let fixed = 1 - (byte >> bit & 1);
+        for bit in (0..*width).rev().filter(|bit| bits >> bit & 1 == 1) {
+            let fixed = 1 - (number >> bit & 1);
             write!(f, "{link} {bit} is fixed at {fixed}")?;
             link = ", bit";
         }
@@ -93,7 +101,7 @@ pub enum Stopped<F> {
     Refused(Refusal),
     /// The value to be written is too low (27) or too high (55), and no access was performed.
     Outside(Outside),
-    /// A byte that was read contradicts its register (52), as from a dead cable: the read is over.
+    /// A number that was read contradicts its register (52), as from a dead cable: the read is over.
     Contradicted(Contradiction),
     /// An access failed, and the operation was abandoned: a write leaves its variable half-written.
     Failed(F),
@@ -149,13 +157,13 @@ impl Station<'_> {
         ports: &mut P,
     ) -> Result<Done, Stopped<P::Failure>> {
         let mut answer = begun;
-        let mut byte = 0;
+        let mut number = 0;
         loop {
             answer = match answer {
                 Answer::Offer(access) => match ports.perform(access) {
                     Ok(brought) => {
-                        byte = brought;
-                        self.confirm(byte)
+                        number = brought;
+                        self.confirm(number)
                     }
                     Err(failure) => {
                         self.abandon().expect("an operation is in hand");
@@ -165,21 +173,23 @@ impl Station<'_> {
                 Answer::Done { value, accesses } => return Ok(Done { value, accesses }),
                 Answer::Refused(refusal) => return Err(Stopped::Refused(refusal)),
                 Answer::Contradicted { register } => {
-                    return Err(Stopped::Contradicted(self.contradiction(register, byte)))
+                    return Err(Stopped::Contradicted(self.contradiction(register, number)))
                 }
             };
         }
     }
 
-    fn contradiction(&self, register: usize, byte: u8) -> Contradiction {
+    fn contradiction(&self, register: usize, number: Number) -> Contradiction {
         let description = self.description();
         let name = description.register_name(register).expect("a register");
+        let width = description.register_width(register).expect("a register");
         Contradiction {
             register,
             name: name.to_string(),
-            byte,
+            width,
+            number: number & Number::MAX >> (Number::BITS as usize - width),
             bits: description
-                .contradicting(register, byte)
+                .contradicting(register, number)
                 .expect("it is read"),
         }
     }

@@ -2,7 +2,8 @@
 //! get, and ports that fail.
 
 use desfanuk::{
-    Access, Answer, Description, Direction, Done, Operation, Ports, Refusal, Station, Stopped,
+    Access, Answer, Description, Direction, Done, Number, Operation, Ports, Refusal, Station,
+    Stopped,
 };
 
 /// A score over two registers; a register with two nibbles; one that is only read, one that is only
@@ -19,18 +20,18 @@ const LOW: usize = 2;
 const MODE: usize = 3;
 const STATE: usize = 4;
 
-const POWER_ON: [u8; 5] = [0, 0, 0xA5, 0, 0];
+const POWER_ON: [Number; 5] = [0, 0, 0xA5, 0, 0];
 
 fn description() -> Description {
     Description::load(TEXT).expect("a good description")
 }
 
-fn write(offset: u8, byte: u8) -> Answer {
+fn write(offset: u8, number: Number) -> Answer {
     Answer::Offer(Access {
         direction: Direction::Write,
         parameter: 0,
         offset,
-        byte,
+        number,
     })
 }
 
@@ -39,7 +40,7 @@ fn read(offset: u8) -> Answer {
         direction: Direction::Read,
         parameter: 0,
         offset,
-        byte: 0,
+        number: 0,
     })
 }
 
@@ -50,7 +51,7 @@ fn done(value: i64, accesses: usize) -> Answer {
 #[test]
 fn the_cases_of_document_01() {
     let description = description();
-    let mut station = Station::open(&description, &POWER_ON).expect("enough bytes");
+    let mut station = Station::open(&description, &POWER_ON).expect("enough numbers");
     assert_eq!(station.begin_write(MODE, 2), write(3, 0xC0));
     assert_eq!(station.confirm(0), done(2, 1));
     assert_eq!(station.begin_write(X, -2), write(0, 0x0F));
@@ -71,7 +72,7 @@ fn every_refusal_of_a_caller() {
     let description = description();
     let opened = Station::open(&description, &POWER_ON[..4]);
     assert_eq!(opened.expect_err("too few"), Refusal::ShortRecord);
-    let mut station = Station::open(&description, &POWER_ON).expect("enough bytes");
+    let mut station = Station::open(&description, &POWER_ON).expect("enough numbers");
     assert_eq!(station.confirm(0), Answer::Refused(Refusal::Idle));
     assert_eq!(station.abandon(), Err(Refusal::Idle));
     for (variable, refusal) in [(5, Refusal::NoVariable), (MODE, Refusal::NoPart)] {
@@ -122,7 +123,7 @@ fn the_range_ends_where_the_refusals_begin() {
     });
     for (of_type, width) in numbers.chain([("bool".to_string(), 1)]) {
         let description = one_variable(&of_type, width);
-        let mut station = Station::open(&description, &[0; 4]).expect("enough bytes");
+        let mut station = Station::open(&description, &[0; 4]).expect("enough numbers");
         let range = description.range(0).expect("a variable");
         assert_eq!(range.end() - range.start(), (1 << width) - 1, "{of_type}");
         for (value, refusal) in [
@@ -144,7 +145,7 @@ fn the_range_ends_where_the_refusals_begin() {
 #[test]
 fn a_value_outside_is_told_in_words() {
     let description = description();
-    let mut station = Station::open(&description, &POWER_ON).expect("enough bytes");
+    let mut station = Station::open(&description, &POWER_ON).expect("enough numbers");
     let mut ports = Storage {
         bytes: POWER_ON,
         dead: None,
@@ -167,13 +168,13 @@ fn a_value_outside_is_told_in_words() {
 
 /// A dead cable reads as all ones, and a register with a bit fixed at 0 tells.
 #[test]
-fn a_contradicting_byte_ends_the_read() {
+fn a_contradicting_number_ends_the_read() {
     let description = Description::load(
         "device d(b:bit[8] port@{0..1}){register r=b@0,mask '****....':bit[8];\
         register s=b@1,mask '0001....':bit[8];variable v=r[3..0]#s[3..0]:int(8);}",
     )
     .expect("a good description");
-    let mut station = Station::open(&description, &[0, 0x10]).expect("enough bytes");
+    let mut station = Station::open(&description, &[0, 0x10]).expect("enough numbers");
     assert_eq!(station.begin_read(0), read(0));
     assert_eq!(station.confirm(0xFF), read(1));
     let stopped = Answer::Contradicted { register: 1 };
@@ -189,13 +190,13 @@ fn a_contradicting_byte_ends_the_read() {
     assert_eq!(description.contradicting(2, 0xFF), None);
 }
 
-/// Ports that read the same byte everywhere.
-struct Wire(u8);
+/// Ports that read the same number everywhere.
+struct Wire(Number);
 
 impl Ports for Wire {
     type Failure = u8;
 
-    fn perform(&mut self, _: Access) -> Result<u8, u8> {
+    fn perform(&mut self, _: Access) -> Result<Number, u8> {
         Ok(self.0)
     }
 }
@@ -207,22 +208,22 @@ fn a_contradiction_is_told_in_words() {
         "device d(b:bit[8] port){register status=b,mask '01*0....':bit[8];variable v=status[3..0]:int(4);}",
     )
     .expect("a good description");
-    let mut station = Station::open(&description, &[0x40]).expect("enough bytes");
-    for (byte, bits, words) in [
+    let mut station = Station::open(&description, &[0x40]).expect("enough numbers");
+    for (number, bits, words) in [
         (0xFF, 0x90, "bit 7 is fixed at 0, bit 4 is fixed at 0"),
         (0x00, 0x40, "bit 6 is fixed at 1"),
     ] {
         let stopped = station
-            .read(0, &mut Wire(byte))
+            .read(0, &mut Wire(number))
             .expect_err("a contradiction");
         assert_eq!(
             stopped.to_string(),
-            format!("refused (52): status gave 0x{byte:02X}: {words}")
+            format!("refused (52): status gave 0x{number:02X}: {words}")
         );
         let Stopped::Contradicted(told) = stopped else {
             panic!("{stopped}");
         };
-        assert_eq!((told.register, told.byte, told.bits), (0, byte, bits));
+        assert_eq!((told.register, told.number, told.bits), (0, number, bits));
         assert_eq!(station.operation(), Operation::Idle);
     }
     let read = Done {
@@ -232,10 +233,52 @@ fn a_contradiction_is_told_in_words() {
     assert_eq!(station.read(0, &mut Wire(0x65)), Ok(read));
 }
 
+/// Registers of 8, 16 and 32 bits: in every number that comes in, bits above the width count as 0.
+#[test]
+fn wider_registers_carry_wider_numbers() {
+    let description = Description::load(
+        "device d(b:bit[8] port,c:bit[16] port,e:bit[32] port){\
+        register r=b:bit[8];register s=c,mask '01..............':bit[16];register t=e:bit[32];\
+        variable v=s[13..0]#r:int(22);variable w=t:signed int(32);}",
+    )
+    .expect("a good description");
+    let widths: Vec<_> = (0..4).map(|r| description.register_width(r)).collect();
+    assert_eq!(widths, [Some(8), Some(16), Some(32), None]);
+    let widths: Vec<_> = (0..4).map(|p| description.port_width(p)).collect();
+    assert_eq!(widths, [Some(8), Some(16), Some(32), None]);
+    let offer = |direction, parameter, number| {
+        Answer::Offer(Access {
+            direction,
+            parameter,
+            offset: 0,
+            number,
+        })
+    };
+
+    let power = [0x1A5, 0x7_4001, 0xFFFF_FFFF];
+    let mut station = Station::open(&description, &power).expect("enough numbers");
+    assert_eq!(station.record(), [0xA5, 0x4001, 0xFFFF_FFFF]);
+    let read = |parameter| offer(Direction::Read, parameter, 0);
+    assert_eq!(station.begin_read(0), read(1));
+    assert_eq!(station.confirm(0xFFFF_4012), read(0));
+    assert_eq!(station.confirm(0xFFFF_FF34), done(0x1234, 2));
+    let write = |parameter, number| offer(Direction::Write, parameter, number);
+    assert_eq!(station.begin_write(0, 0x2B_CDEF), write(1, 0x6BCD));
+    assert_eq!(station.confirm(0), write(0, 0xEF));
+    assert_eq!(station.confirm(0), done(0x2B_CDEF, 2));
+    assert_eq!(station.begin_write(1, -2), write(2, 0xFFFF_FFFE));
+    assert_eq!(station.confirm(0), done(-2, 1));
+    assert_eq!(station.record(), [0xEF, 0x6BCD, 0xFFFF_FFFE]);
+
+    let stopped = station.read(0, &mut Wire(0xF_FFFF)).expect_err("all ones");
+    let words = "refused (52): s gave 0xFFFF: bit 15 is fixed at 0";
+    assert_eq!(stopped.to_string(), words);
+}
+
 #[test]
 fn an_abandoned_write_is_half_written_until_one_finishes() {
     let description = description();
-    let mut station = Station::open(&description, &POWER_ON).expect("enough bytes");
+    let mut station = Station::open(&description, &POWER_ON).expect("enough numbers");
     assert_eq!(station.begin_write(X, 0x35), write(0, 0x03));
     assert_eq!(station.confirm(0), write(1, 0x05));
     let in_hand = Operation::Writing {
@@ -263,7 +306,7 @@ fn an_abandoned_write_is_half_written_until_one_finishes() {
 #[test]
 fn a_new_opening_ends_what_was_in_hand() {
     let description = description();
-    let mut station = Station::open(&description, &POWER_ON).expect("enough bytes");
+    let mut station = Station::open(&description, &POWER_ON).expect("enough numbers");
     assert_eq!(station.begin_write(LOW, 1), write(2, 0xA1));
     assert_eq!(station.abandon(), Ok(()));
     assert_eq!(station.begin_read(HIGH), read(2));
@@ -285,20 +328,20 @@ fn a_new_opening_ends_what_was_in_hand() {
 
 /// Storage at each offset, with one that does not answer.
 struct Storage {
-    bytes: [u8; 5],
+    bytes: [Number; 5],
     dead: Option<u8>,
 }
 
 impl Ports for Storage {
     type Failure = u8;
 
-    fn perform(&mut self, access: Access) -> Result<u8, u8> {
+    fn perform(&mut self, access: Access) -> Result<Number, u8> {
         if self.dead == Some(access.offset) {
             return Err(access.offset);
         }
         let cell = &mut self.bytes[usize::from(access.offset)];
         if access.direction == Direction::Write {
-            *cell = access.byte;
+            *cell = access.number;
         }
         Ok(*cell)
     }
@@ -307,7 +350,7 @@ impl Ports for Storage {
 #[test]
 fn ports_that_fail_abandon_the_operation() {
     let description = description();
-    let mut station = Station::open(&description, &POWER_ON).expect("enough bytes");
+    let mut station = Station::open(&description, &POWER_ON).expect("enough numbers");
     let mut ports = Storage {
         bytes: POWER_ON,
         dead: None,

@@ -1,32 +1,35 @@
 //! The storage board of demand 3, and what an onlooker expects of it. Nothing here knows how a
-//! station makes its bytes: the board sees accesses, the onlooker values.
+//! station makes its numbers: the board sees accesses, the onlooker values.
 
 use std::collections::HashMap;
 
-use crate::generate::Random;
+use crate::generate::{bits_above, Random};
 use crate::{Access, Answer, Description, Kind, Mask, Part, Variable};
 
 /// A station's five calls, whoever answers them.
 pub trait Calls {
-    fn open(&mut self, power: &[u8]) -> Answer;
+    fn open(&mut self, power: &[u32]) -> Answer;
     fn begin_read(&mut self, variable: usize) -> Answer;
     fn begin_write(&mut self, variable: usize, value: i64) -> Answer;
-    fn confirm(&mut self, byte: u8) -> Answer;
+    fn confirm(&mut self, number: u32) -> Answer;
     fn abandon(&mut self) -> Answer;
 }
 
-/// A cell for each register: a read at its read place gives it. A byte written goes to the one
-/// register at that write place whose fixed bits it matches.
+/// A cell for each register, one number of its width: a read at its read place gives it. A number
+/// written goes to the one register at that write place whose fixed bits it matches.
 pub struct Board {
-    pub cells: Vec<u8>,
+    pub cells: Vec<u32>,
+    widths: Vec<u32>,
     reads: HashMap<(usize, u32), (usize, Mask)>,
     writes: HashMap<(usize, u32), Vec<(usize, Mask)>>,
 }
 
 impl Board {
-    pub fn new(description: &Description, cells: &[u8]) -> Board {
+    /// A board with these numbers in its cells, as far as each register is wide.
+    pub fn new(description: &Description, cells: &[u32]) -> Board {
         let mut board = Board {
-            cells: cells.to_vec(),
+            cells: cells_of(description, cells),
+            widths: description.registers.iter().map(|r| r.width).collect(),
             reads: HashMap::new(),
             writes: HashMap::new(),
         };
@@ -44,21 +47,37 @@ impl Board {
         board
     }
 
-    /// Performs an access; gives the byte for its confirmation, which is ignored after a write. A
-    /// byte that no register takes, or more than one, is a fault of the station or the tables.
-    pub fn perform(&mut self, access: Access) -> u8 {
+    /// Performs an access; gives the number for its confirmation, which is ignored after a write. A
+    /// number that no register takes, or more than one, or that is wider than its register, is a fault of
+    /// the station or the tables.
+    pub fn perform(&mut self, access: Access) -> u32 {
         let place = (access.parameter, access.offset);
         match access.direction {
             Part::Read => self.cells[self.reads[&place].0],
             Part::Write => {
                 let there = self.writes[&place].iter();
                 let takers: Vec<usize> = there
-                    .filter(|(_, mask)| mask.fits(access.byte))
+                    .filter(|(_, mask)| mask.fits(access.number))
                     .map(|(register, _)| *register)
                     .collect();
                 assert_eq!(takers.len(), 1, "{takers:?} take {access:?}");
-                self.cells[takers[0]] = access.byte;
+                let wide = u64::from(access.number) >> self.widths[takers[0]];
+                assert_eq!(wide, 0, "bits above the width in {access:?}");
+                self.cells[takers[0]] = access.number;
                 0x99
+            }
+        }
+    }
+
+    /// Performs an access, and gives what a careless caller confirms it with: the number, now and then
+    /// with bits above the width of the register read.
+    fn perform_carelessly(&mut self, random: &mut Random, access: Access) -> u32 {
+        let number = self.perform(access);
+        match access.direction {
+            Part::Write => number,
+            Part::Read => {
+                let (register, _) = self.reads[&(access.parameter, access.offset)];
+                bits_above(random, self.widths[register], number)
             }
         }
     }
@@ -73,6 +92,14 @@ impl Board {
     }
 }
 
+/// The numbers as far as each register is wide: bits above count as 0.
+fn cells_of(description: &Description, numbers: &[u32]) -> Vec<u32> {
+    let registers = description.registers.iter().zip(numbers);
+    registers
+        .map(|(register, number)| register.cut(*number))
+        .collect()
+}
+
 /// The read-back's premise of a description: registers with both parts have one mask for both.
 pub fn one_mask_each(description: &Description) -> bool {
     description
@@ -84,32 +111,33 @@ pub fn one_mask_each(description: &Description) -> bool {
         })
 }
 
-/// Its premise of power-on bytes: each obeys the masks of its register.
-pub fn masks_obeyed(description: &Description, power: &[u8]) -> bool {
+/// Its premise of power-on numbers: each obeys the masks of its register.
+pub fn masks_obeyed(description: &Description, power: &[u32]) -> bool {
     description
         .registers
         .iter()
         .zip(power)
-        .all(|(register, byte)| {
+        .all(|(register, number)| {
             let ports = [register.read, register.write];
-            ports.iter().flatten().all(|port| port.mask.fits(*byte))
+            ports.iter().flatten().all(|port| port.mask.fits(*number))
         })
 }
 
-/// Power-on bytes: mostly such that obey the masks, where one byte can obey both.
-pub fn power_on(random: &mut Random, description: &Description) -> Vec<u8> {
+/// Power-on numbers: mostly such that obey the masks, where one number can obey both; now and then
+/// with bits above the width.
+pub fn power_on(random: &mut Random, description: &Description) -> Vec<u32> {
     let careless = random.one_in(4);
     description
         .registers
         .iter()
         .map(|register| {
-            let mut byte = random.byte();
+            let mut number = register.cut(random.number() as u32);
             for port in [register.write, register.read].iter().flatten() {
                 if !careless {
-                    byte = port.mask.obeying(byte);
+                    number = port.mask.obeying(number);
                 }
             }
-            byte
+            bits_above(random, register.width, number)
         })
         .collect()
 }
@@ -134,8 +162,14 @@ pub fn shares_a_place(description: &Description, variable: &Variable) -> bool {
     })
 }
 
-/// The value that bytes hold for a variable with a read part, worked out bit by bit.
-pub fn held_by(variable: &Variable, cells: &[u8]) -> i64 {
+/// Whether some bit that the variable reads is one that no register of width 8 has.
+pub fn is_wide(variable: &Variable) -> bool {
+    let mut pieces = variable.read.iter().flat_map(|bits| &bits.pieces);
+    pieces.any(|piece| piece.high > 7)
+}
+
+/// The value that cells hold for a variable with a read part, worked out bit by bit.
+pub fn held_by(variable: &Variable, cells: &[u32]) -> i64 {
     let mut value: i64 = 0;
     for piece in &variable.read.as_ref().expect("a read part").pieces {
         for bit in (piece.low..=piece.high).rev() {
@@ -191,7 +225,7 @@ pub fn to_its_end(
             Answer::Offer(access) => {
                 confirmed += 1;
                 let contradicted = board.contradicts(access);
-                answer = station.confirm(board.perform(access));
+                answer = station.confirm(board.perform_carelessly(random, access));
                 let named = match answer {
                     Answer::Contradicted { register } => Some(register),
                     _ => None,
@@ -204,7 +238,7 @@ pub fn to_its_end(
             }
             Answer::Refused(number) => return Ended::Refused(number),
             Answer::Contradicted { .. } => return Ended::Refused(52),
-            other => panic!("{other}"),
+            other => panic!("{other:?}"),
         }
     }
 }
@@ -212,7 +246,7 @@ pub fn to_its_end(
 /// From one opening on, so many reads and writes of a description that has variables, some of them
 /// abandoned: each read of a plain variable gives the value last finished for it, or its power-on
 /// bits if none was, and is refused as half-written where its own write was abandoned. Where a
-/// register has two masks, or a power-on byte contradicts its own, a read may be refused by 52
+/// register has two masks, or a power-on number contradicts its own, a read may be refused by 52
 /// instead. Tells `note` what it saw.
 pub fn watch(
     random: &mut Random,
@@ -257,6 +291,9 @@ pub fn watch(
                 if shares_a_place(description, variable) {
                     note("from a shared place");
                 }
+                if is_wide(variable) {
+                    note("from a wide register");
+                }
             }
         }
     }
@@ -289,7 +326,7 @@ mod tests {
     use crate::load::{load, Verdict};
 
     #[test]
-    fn a_byte_goes_to_the_register_that_it_matches() {
+    fn a_number_goes_to_the_register_that_it_matches() {
         let text = b"device d(b:bit[8] port@{0..2}){register p=write b@2,mask '1*******':bit[8];\
             register q=write b@2,mask '0*****1*':bit[8];register r=write b@2,mask '00****0*':bit[8];\
             register s=write b@1,mask '1*******':bit[8];}";
@@ -297,12 +334,12 @@ mod tests {
             panic!("it is accepted");
         };
         let mut board = Board::new(&description, &[1, 2, 3, 4]);
-        let mut write = |offset, byte| {
+        let mut write = |offset, number| {
             board.perform(Access {
                 direction: Part::Write,
                 parameter: 0,
                 offset,
-                byte,
+                number,
             });
             board.cells.clone()
         };

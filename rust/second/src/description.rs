@@ -62,9 +62,17 @@ pub struct Port {
 /// `ones` where it is `1`.
 #[derive(Clone, Copy, Debug, PartialEq, Eq)]
 pub struct Mask {
-    pub dots: u8,
-    pub fixed: u8,
-    pub ones: u8,
+    pub dots: u32,
+    pub fixed: u32,
+    pub ones: u32,
+}
+
+/// The widths that a parameter and its registers may have.
+pub const WIDTHS: [u32; 3] = [8, 16, 32];
+
+/// All bits below a width, of the 32 that a number has.
+pub fn all_bits(width: u32) -> u32 {
+    1u32.checked_shl(width).unwrap_or(0).wrapping_sub(1)
 }
 
 #[derive(Clone, Copy, Debug, PartialEq, Eq)]
@@ -125,6 +133,11 @@ impl Description {
 }
 
 impl Register {
+    /// A number for this register, with the bits above its width as 0.
+    pub fn cut(&self, number: u32) -> u32 {
+        number & all_bits(self.width)
+    }
+
     pub fn part(&self, part: Part) -> Option<&Port> {
         match part {
             Part::Read => self.read.as_ref(),
@@ -152,31 +165,34 @@ impl Variable {
 }
 
 impl Mask {
-    /// No mask means eight dots.
-    pub const DOTS: Mask = Mask {
-        dots: 0xFF,
-        fixed: 0,
-        ones: 0,
-    };
+    /// No mask means a dot for each bit of the width.
+    pub fn dots(width: u32) -> Mask {
+        Mask {
+            dots: all_bits(width),
+            fixed: 0,
+            ones: 0,
+        }
+    }
 
-    /// Whether some bit is fixed 0 in one of the two masks and 1 in the other: no byte fits both.
+    /// Whether some bit is fixed 0 in one of the two masks and 1 in the other: no number fits both.
     pub fn told_from(&self, other: &Mask) -> bool {
         self.fixed & other.fixed & (self.ones ^ other.ones) != 0
     }
 
-    /// Whether a byte has the mask's fixed bits.
-    pub fn fits(&self, byte: u8) -> bool {
-        byte & self.fixed == self.ones
+    /// Whether a number has the mask's fixed bits.
+    pub fn fits(&self, number: u32) -> bool {
+        number & self.fixed == self.ones
     }
 
-    /// A byte with the mask's fixed bits in place of its own.
-    pub fn obeying(&self, byte: u8) -> u8 {
-        byte & !self.fixed | self.ones
+    /// A number with the mask's fixed bits in place of its own.
+    pub fn obeying(&self, number: u32) -> u32 {
+        number & !self.fixed | self.ones
     }
 
-    /// The mask that a bits literal of eight elements gives; the rightmost is for bit 0.
-    pub fn of(elements: &[u8]) -> Option<Mask> {
-        if elements.len() != 8 {
+    /// The mask that a bits literal gives, if it has as many elements as the width says; the rightmost
+    /// is for bit 0. Of a width over 32, which is refused in any case, the lowest 32 bits are kept.
+    pub fn of(elements: &[u8], width: u32) -> Option<Mask> {
+        if elements.len() != width as usize {
             return None;
         }
         let mut mask = Mask {
@@ -184,7 +200,7 @@ impl Mask {
             fixed: 0,
             ones: 0,
         };
-        for (bit, element) in elements.iter().rev().enumerate() {
+        for (bit, element) in elements.iter().rev().take(32).enumerate() {
             match element {
                 b'.' => mask.dots |= 1 << bit,
                 b'0' => mask.fixed |= 1 << bit,
@@ -205,14 +221,46 @@ mod tests {
 
     #[test]
     fn the_rightmost_element_is_bit_0() {
-        let mask = Mask::of(b"1..0**00").unwrap();
+        let mask = Mask::of(b"1..0**00", 8).unwrap();
         assert_eq!((mask.dots, mask.fixed, mask.ones), (0x60, 0x93, 0x80));
-        assert_eq!(Mask::of(b"........"), Some(Mask::DOTS));
-        assert_eq!(Mask::of(b"1.00000"), None);
-        assert_eq!(Mask::of(b"........."), None);
+        let mask = Mask::of(b"1..0**000.......", 16).unwrap();
+        assert_eq!((mask.dots, mask.fixed, mask.ones), (0x607F, 0x9380, 0x8000));
+        let mask = Mask::of(b"1.............................0*", 32).unwrap();
+        assert_eq!(
+            (mask.dots, mask.fixed, mask.ones),
+            (0x7FFF_FFFC, 0x8000_0002, 0x8000_0000)
+        );
     }
 
-    /// Over every pair of masks, a bit of each: two are told apart exactly when no byte fits both.
+    /// The width alone says how long a mask is, whether or not it is a width that ports have.
+    #[test]
+    fn a_mask_is_as_long_as_its_width() {
+        for width in [1, 7, 8, 9, 12, 15, 16, 17, 24, 31, 32, 33, 64] {
+            let dots = vec![b'.'; width as usize];
+            assert_eq!(Mask::of(&dots, width), Some(Mask::dots(width)), "{width}");
+            assert_eq!(Mask::of(&dots[1..], width), None, "{width}");
+            assert_eq!(Mask::of(&dots, width - 1), None, "{width}");
+        }
+    }
+
+    #[test]
+    fn bits_below_a_width() {
+        for (width, bits) in [
+            (0, 0),
+            (1, 1),
+            (8, 0xFF),
+            (16, 0xFFFF),
+            (31, 0x7FFF_FFFF),
+            (32, u32::MAX),
+            (33, u32::MAX),
+            (u32::MAX, u32::MAX),
+        ] {
+            assert_eq!(all_bits(width), bits, "{width}");
+        }
+    }
+
+    /// Over every pair of masks, two bits of each, in the highest byte of every width: two are told
+    /// apart exactly when no number fits both.
     #[test]
     fn told_apart() {
         let elements = |code: usize| [b'0', b'1', b'*', b'.'][code % 4];
@@ -223,10 +271,15 @@ mod tests {
             other[1] = elements(code / 4);
             one[6] = elements(code / 16);
             other[6] = elements(code / 64);
-            let [one, other] = [one, other].map(|mask| Mask::of(&mask).unwrap());
-            let both = (0..=255).any(|byte| one.fits(byte) && other.fits(byte));
-            assert_eq!(one.told_from(&other), !both, "{one:?} {other:?}");
-            assert_eq!(other.told_from(&one), !both);
+            for width in WIDTHS {
+                let below = vec![b'*'; width as usize - 8];
+                let mask = |highest: &[u8]| Mask::of(&[highest, &below].concat(), width).unwrap();
+                let [one, other] = [mask(&one), mask(&other)];
+                let mut numbers = (0..=255).map(|byte: u32| byte << (width - 8));
+                let both = numbers.any(|number| one.fits(number) && other.fits(number));
+                assert_eq!(one.told_from(&other), !both, "{one:?} {other:?}");
+                assert_eq!(other.told_from(&one), !both);
+            }
         }
     }
 }

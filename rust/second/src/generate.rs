@@ -12,6 +12,7 @@ mod runs;
 mod source;
 mod tables;
 mod valid;
+mod wide;
 mod written;
 
 pub use broken::{broken, damaged, random_bytes};
@@ -22,21 +23,27 @@ pub use runs::{every_step, run};
 pub use source::{spell, Source, Style};
 pub use tables::{damaged_tables, sound_tables, TableSet};
 pub use valid::{source, valid, Shape};
+pub use wide::{bits_above, number_for, some_number};
 pub use written::written;
 
 /// A text of any kind: most are valid or break one rule on purpose, the others are damaged without
 /// a plan, and a few are mere bytes.
 pub fn text(random: &mut Random) -> Vec<u8> {
-    match random.below(20) {
+    match random.below(24) {
         0..=5 => valid(random),
-        6..=13 => {
-            let rule = random.between(2, 16) as u8;
+        6..=17 => {
+            let rule = *random.pick(&BROKEN);
             broken(random, rule)
         }
-        14..=18 => damaged(random),
+        18..=22 => damaged(random),
         _ => random_bytes(random),
     }
 }
+
+/// The rules that texts break on purpose; those that are broken in many ways come more often.
+const BROKEN: [u8; 22] = [
+    2, 3, 4, 5, 6, 7, 8, 9, 9, 10, 11, 11, 11, 12, 12, 12, 12, 13, 13, 14, 15, 16,
+];
 
 /// How often each refusal came (accepted is 0), over so many texts.
 pub fn distribution(seed: u64, count: usize) -> [usize; 17] {

@@ -2,6 +2,7 @@
 
 use std::fmt;
 
+use crate::description::{Description, Part};
 use crate::frame;
 use crate::load::{load, Verdict};
 use crate::station::{abandon, begin_read, begin_write, confirm, open, Answer, Operation, Tables};
@@ -10,14 +11,14 @@ use crate::tables::{lookup, tables};
 /// One line of a script.
 #[derive(Clone, Debug, PartialEq, Eq)]
 pub enum Call {
-    Open(Vec<u8>),
+    Open(Vec<u32>),
     Read(usize),
     Write(usize, i64),
-    Confirm(u8),
+    Confirm(u32),
     Abandon,
     Lookup(Vec<u8>),
     State,
-    /// Lends only so many bytes of the record from now on; all of them without a number.
+    /// Lends only so many numbers of the record from now on; all of them without a count.
     LendRecord(Option<usize>),
     LendMarks(Option<usize>),
     Hold(Operation),
@@ -31,13 +32,14 @@ impl fmt::Display for Call {
             None => write!(f, "lend {what} all"),
         };
         match self {
-            Call::Open(bytes) => {
+            Call::Open(numbers) => {
                 write!(f, "open")?;
-                bytes.iter().try_for_each(|byte| write!(f, " 0x{byte:02X}"))
+                let mut each = numbers.iter();
+                each.try_for_each(|number| write!(f, " 0x{number:02X}"))
             }
             Call::Read(variable) => write!(f, "read {variable}"),
             Call::Write(variable, value) => write!(f, "write {variable} {value}"),
-            Call::Confirm(byte) => write!(f, "confirm 0x{byte:02X}"),
+            Call::Confirm(number) => write!(f, "confirm 0x{number:02X}"),
             Call::Abandon => write!(f, "abandon"),
             Call::Lookup(name) => write!(f, "lookup {}", String::from_utf8_lossy(name)),
             Call::State => write!(f, "state"),
@@ -73,15 +75,15 @@ impl fmt::Display for Shown {
 pub fn parse(line: &[u8]) -> Option<Call> {
     let fields: Vec<&[u8]> = fields(line).collect();
     Some(match fields[..] {
-        [b"open", ref bytes @ ..] => Call::Open(
-            bytes
+        [b"open", ref numbers @ ..] => Call::Open(
+            numbers
                 .iter()
                 .map(|field| natural(field))
                 .collect::<Option<_>>()?,
         ),
         [b"read", variable] => Call::Read(natural(variable)?),
         [b"write", variable, z] => Call::Write(natural(variable)?, value(z)?),
-        [b"confirm", byte] => Call::Confirm(natural(byte)?),
+        [b"confirm", number] => Call::Confirm(natural(number)?),
         [b"abandon"] => Call::Abandon,
         [b"lookup"] => Call::Lookup(Vec::new()),
         [b"lookup", name] => Call::Lookup(name.to_vec()),
@@ -148,7 +150,8 @@ pub struct Session {
     parameters: Vec<u32>,
     registers: Vec<u32>,
     variables: Vec<u32>,
-    record: Vec<u8>,
+    widths: Widths,
+    record: Vec<u32>,
     marks: Vec<u8>,
     operation: Operation,
     /// Before the first opening the station has no record and no marks.
@@ -167,6 +170,7 @@ impl Session {
         let (parameters, registers, variables) = tables(&description);
         Ok(Session {
             text: text.to_vec(),
+            widths: Widths::of(&description),
             record: vec![0; description.registers.len()],
             marks: vec![0; description.variables.len()],
             parameters,
@@ -190,7 +194,8 @@ impl Session {
     pub fn perform(&mut self, call: &Call) -> String {
         match call {
             Call::Open(_) | Call::Read(_) | Call::Write(..) | Call::Confirm(_) | Call::Abandon => {
-                self.station_call(call).to_string()
+                let answer = self.station_call(call);
+                self.widths.answer(answer)
             }
             Call::Lookup(name) => match lookup(&self.text, &self.variables, name) {
                 Some(variable) => format!("variable {variable}"),
@@ -223,12 +228,12 @@ impl Session {
         let marks = lend(&mut self.marks, self.lent_marks, there);
         let operation = &mut self.operation;
         let answer = match call {
-            Call::Open(bytes) => open(tables, bytes, record, marks, operation),
+            Call::Open(numbers) => open(tables, numbers, record, marks, operation),
             Call::Read(variable) => begin_read(tables, record, marks, operation, *variable),
             Call::Write(variable, value) => {
                 begin_write(tables, record, marks, operation, *variable, *value)
             }
-            Call::Confirm(byte) => confirm(tables, record, marks, operation, *byte),
+            Call::Confirm(number) => confirm(tables, record, marks, operation, *number),
             _ => abandon(tables, record, marks, operation),
         };
         self.opened |= answer == Answer::Opened;
@@ -247,13 +252,12 @@ impl Session {
         })
     }
 
-    /// `record BB BB .. marks M M .. operation ..`, with the whole record and all marks.
+    /// `record N N .. marks M M .. operation ..`, with the whole record and all marks.
     fn state(&self) -> String {
         let mut line = "record".to_string();
         if self.opened {
-            self.record
-                .iter()
-                .for_each(|byte| line += &format!(" {byte:02X}"));
+            let record = self.record.iter().zip(&self.widths.registers);
+            record.for_each(|(number, width)| line += &format!(" {}", hex(*number, *width)));
         }
         line += " marks";
         if self.opened {
@@ -265,10 +269,52 @@ impl Session {
     }
 }
 
-/// The first `count` bytes, or all; none before the first opening.
-fn lend(bytes: &mut [u8], count: Option<usize>, there: bool) -> &mut [u8] {
-    let count = count.unwrap_or(bytes.len()).min(bytes.len());
-    &mut bytes[..if there { count } else { 0 }]
+/// The widths that say how numbers are written.
+struct Widths {
+    parameters: Vec<u32>,
+    registers: Vec<u32>,
+}
+
+impl Widths {
+    fn of(description: &Description) -> Widths {
+        let parameters = description.parameters.iter();
+        let registers = description.registers.iter();
+        Widths {
+            parameters: parameters.map(|parameter| parameter.width).collect(),
+            registers: registers.map(|register| register.width).collect(),
+        }
+    }
+
+    /// The line of an answer. The register at a place has the width of the place's parameter.
+    fn answer(&self, answer: Answer) -> String {
+        match answer {
+            Answer::Opened => "opened".to_string(),
+            Answer::Offer(access) => {
+                let direction = match access.direction {
+                    Part::Read => "read",
+                    Part::Write => "write",
+                };
+                let (parameter, offset) = (access.parameter, access.offset);
+                let number = hex(access.number, self.parameters[parameter]);
+                format!("offer {direction} {parameter} {offset} 0x{number}")
+            }
+            Answer::Done { value, accesses } => format!("done {value} {accesses}"),
+            Answer::Abandoned => "abandoned".to_string(),
+            Answer::Refused(number) => format!("refused {number}"),
+            Answer::Contradicted { register } => format!("refused 52 {register}"),
+        }
+    }
+}
+
+/// A number in 2, 4 or 8 digits, by the width of its register.
+fn hex(number: u32, width: u32) -> String {
+    format!("{number:0digits$X}", digits = width as usize / 4)
+}
+
+/// The first `count` of a buffer, or all; none before the first opening.
+fn lend<T>(buffer: &mut [T], count: Option<usize>, there: bool) -> &mut [T] {
+    let count = count.unwrap_or(buffer.len()).min(buffer.len());
+    &mut buffer[..if there { count } else { 0 }]
 }
 
 /// Runs the scripts of an input, each a framed text and then calls over it; gives the lines that
@@ -315,14 +361,43 @@ mod tests {
         assert_eq!(value("9".repeat(100).as_bytes()), None);
     }
 
+    /// 2, 4 or 8 digits by the register's width, in offers and in the state.
+    #[test]
+    fn digits() {
+        let text = b"device d(a:bit[8] port,b:bit[16] port,c:bit[32] port){register r=a:bit[8];\
+            register s=b:bit[16];register t=c:bit[32];\
+            variable v=r:int(8);variable w=s:int(16);variable x=t:int(32);}";
+        let mut session = Session::new(text).unwrap();
+        session.perform(&Call::Open(vec![0xABCD_EF01; 3]));
+        assert_eq!(
+            session.perform(&Call::State),
+            "record 01 EF01 ABCDEF01 marks 0 0 0 operation idle"
+        );
+        for (variable, digits) in [(0, 2), (1, 4), (2, 8)] {
+            for (call, digit) in [
+                (Call::Read(variable), "0"),
+                (Call::Write(variable, 10), "A"),
+            ] {
+                let answer = session.perform(&call);
+                let number = format!("0x{}{digit}", "0".repeat(digits - 1));
+                let (offer, offered) = answer.rsplit_once(' ').unwrap();
+                assert!(offer.starts_with("offer") && offered == number, "{answer}");
+                session.perform(&Call::Abandon);
+            }
+            session.perform(&Call::Write(variable, 0));
+            session.perform(&Call::Confirm(0));
+        }
+    }
+
     #[test]
     fn every_call_is_its_line() {
         for call in [
-            Call::Open(vec![0, 0xA5]),
+            Call::Open(vec![0, 0xA5, 0x1_0000, u32::MAX]),
             Call::Open(vec![]),
             Call::Read(3),
             Call::Write(2, -7),
             Call::Confirm(255),
+            Call::Confirm(u32::MAX),
             Call::Abandon,
             Call::Lookup(b"v".to_vec()),
             Call::State,
@@ -350,7 +425,7 @@ mod tests {
     fn no_call() {
         for line in [
             "opens",
-            "open 256",
+            "open 4294967296",
             "open -1",
             "read",
             "read 1 2",
@@ -358,7 +433,7 @@ mod tests {
             "read -1",
             "write 1",
             "confirm",
-            "confirm 300",
+            "confirm 4294967296",
             "abandon 1",
             "lookup a b",
             "state 1",

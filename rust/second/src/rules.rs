@@ -6,12 +6,12 @@
 use std::collections::HashMap;
 
 use crate::description::{
-    Bits, Description, Kind, Mask, Name, OffsetRange, Parameter, Part, Piece, Port, Register,
-    Variable, PARTS,
+    all_bits, Bits, Description, Kind, Mask, Name, OffsetRange, Parameter, Part, Piece, Port,
+    Register, Variable, PARTS, WIDTHS,
 };
 use crate::load::Refusal;
 use crate::syntax::{
-    Attribute, ListText, MaskText, ParameterText, PieceText, PortText, RegisterText, TypeText,
+    Attribute, ListText, ParameterText, PieceText, PortText, Range, RegisterText, TypeText,
     VariableText, PARAMETERS, REGISTERS, VARIABLES,
 };
 
@@ -27,7 +27,7 @@ enum Entity {
 /// What the variables so far hold of one part of a register.
 #[derive(Clone, Copy, Debug, Default)]
 struct Held {
-    bits: u8,
+    bits: u32,
     trigger: bool,
 }
 
@@ -107,7 +107,7 @@ impl<'t> Judge<'t> {
         {
             return refused(8, name);
         }
-        if parameter.width != 8 {
+        if !WIDTHS.contains(&parameter.width) {
             return refused(12, name);
         }
         self.description.parameters.push(Parameter {
@@ -144,7 +144,7 @@ impl<'t> Judge<'t> {
             Some(Pairing::Each(Part::Read)) => (Some(first), second),
             Some(Pairing::Each(Part::Write)) => (second, Some(first)),
         };
-        let Some((read_mask, write_mask)) = masks(&register.masks, read.is_some(), write.is_some())
+        let Some((read_mask, write_mask)) = masks(&register, read.is_some(), write.is_some())
         else {
             return refused(9, name);
         };
@@ -165,12 +165,20 @@ impl<'t> Judge<'t> {
         if self.clashes(&judged) {
             return refused(10, name);
         }
-        if judged.width != 8 {
+        if !self.width_fits(&judged) {
             return refused(12, name);
         }
 
         self.description.registers.push(judged);
         Ok(())
+    }
+
+    /// Rule 12 of a register: its width is that of the parameter of each of its ports, and so one that
+    /// parameters have.
+    fn width_fits(&self, register: &Register) -> bool {
+        let parameters = &self.description.parameters;
+        let mut ports = PARTS.into_iter().filter_map(|part| register.part(part));
+        ports.all(|port| parameters[port.parameter].width == register.width)
     }
 
     /// Rule 10: a part's place is that of the same part of an earlier register. Write parts may share
@@ -285,14 +293,23 @@ impl<'t> Judge<'t> {
     /// Rule 7 of a bit list: its names are those of earlier registers.
     fn list_pieces(&self, list: &ListText) -> Judged<Vec<Piece>> {
         let piece = |text: &PieceText| match self.names.get(text.register.of(self.text)) {
-            Some(Entity::Register(register)) => Ok(Piece {
-                register: *register,
-                high: text.bits.first,
-                low: text.bits.last,
-            }),
+            Some(Entity::Register(register)) => Ok(self.piece(*register, text.bits)),
             _ => refused(7, text.register),
         };
         list.pieces.iter().map(piece).collect()
+    }
+
+    /// A whole register is all its bits.
+    fn piece(&self, register: usize, bits: Option<Range>) -> Piece {
+        let (high, low) = match bits {
+            Some(range) => (range.first, range.last),
+            None => (self.description.registers[register].width - 1, 0),
+        };
+        Piece {
+            register,
+            high,
+            low,
+        }
     }
 
     /// Rule 11, the pairing: the pieces of the read part and of the write part.
@@ -341,11 +358,9 @@ impl<'t> Judge<'t> {
         let mut width = 0;
         let mut map = [0; REGISTERS];
         for piece in pieces {
-            let dots = self.description.registers[piece.register]
-                .part(part)?
-                .mask
-                .dots;
-            if piece.high > 7 || piece.low > piece.high {
+            let register = &self.description.registers[piece.register];
+            let dots = register.part(part)?.mask.dots;
+            if piece.high >= register.width || piece.low > piece.high {
                 return None;
             }
             let bits = taken(piece);
@@ -374,16 +389,17 @@ impl<'t> Judge<'t> {
 }
 
 /// The bits of its register that a piece takes.
-fn taken(piece: &Piece) -> u8 {
-    ((2u32 << piece.high) - (1 << piece.low)) as u8
+fn taken(piece: &Piece) -> u32 {
+    all_bits(piece.high + 1) & !all_bits(piece.low)
 }
 
-/// Rule 9 of the masks: the mask of the read part and that of the write part.
-fn masks(masks: &[MaskText], read: bool, write: bool) -> Option<(Mask, Mask)> {
+/// Rule 9 of the masks: the mask of the read part and that of the write part, each as long as the
+/// register's stated width, whether or not that is one of the widths.
+fn masks(register: &RegisterText, read: bool, write: bool) -> Option<(Mask, Mask)> {
     let mut read_mask = None;
     let mut write_mask = None;
-    for text in masks {
-        let mask = Mask::of(text.elements)?;
+    for text in &register.masks {
+        let mask = Mask::of(text.elements, register.width)?;
         let (for_read, for_write) = match text.modifier {
             None => (read, write),
             Some(Part::Read) if read => (true, false),
@@ -397,10 +413,8 @@ fn masks(masks: &[MaskText], read: bool, write: bool) -> Option<(Mask, Mask)> {
             return None;
         }
     }
-    Some((
-        read_mask.unwrap_or(Mask::DOTS),
-        write_mask.unwrap_or(Mask::DOTS),
-    ))
+    let dots = Mask::dots(register.width);
+    Some((read_mask.unwrap_or(dots), write_mask.unwrap_or(dots)))
 }
 
 #[derive(Default)]

@@ -1,6 +1,7 @@
 //! Refusal 20: whether any three slices are tables that some accepted text could have left,
 //! recorded names aside. Written clause by clause, with no thought for speed.
 
+use crate::description::WIDTHS;
 use crate::syntax::{PARAMETERS, PIECES, RANGES, REGISTERS, VARIABLES};
 use crate::tables::{
     BITS_ENTRY, PARAMETER_ENTRY, PARAMETER_WORDS, PORT_ENTRY, REGISTER_ENTRY, REGISTER_WORDS,
@@ -73,10 +74,10 @@ fn unused_are_zero(parameters: &Table, registers: &Table, variables: &Table) -> 
         .all(|table| table.unused.iter().all(|entry| zero(entry)))
 }
 
-/// Width 8; one to sixteen ranges, none going down, none over 255; no words past them.
+/// Width 8, 16 or 32; one to sixteen ranges, none going down, none over 255; no words past them.
 fn parameter_good(parameter: &[u32]) -> bool {
     let (width, count) = (parameter[2], parameter[3] as usize);
-    width == 8
+    WIDTHS.contains(&width)
         && (1..=RANGES).contains(&count)
         && ranges(parameter).all(|range| range[0] <= range[1] && range[1] <= 255)
         && zero(&parameter[4 + 2 * count..])
@@ -91,14 +92,15 @@ fn port(register: &[u32], part: usize) -> &[u32] {
     &register[3 + part * PORT_ENTRY..][..PORT_ENTRY]
 }
 
-/// Width 8; one part at least.
+/// One part at least.
 fn register_good(register: &[u32], parameters: &[&[u32]]) -> bool {
-    register[2] == 8
-        && (0..2).all(|part| port_good(port(register, part), parameters))
+    let width = register[2];
+    (0..2).all(|part| port_good(port(register, part), width, parameters))
         && (0..2).any(|part| port(register, part)[0] == 1)
 }
 
-fn port_good(port: &[u32], parameters: &[&[u32]]) -> bool {
+/// A place of a parameter that has the register's width, and a mask with no bit above it.
+fn port_good(port: &[u32], width: u32, parameters: &[&[u32]]) -> bool {
     let [present, parameter, offset, dots, fixed, ones] = *port else {
         return false;
     };
@@ -107,10 +109,11 @@ fn port_good(port: &[u32], parameters: &[&[u32]]) -> bool {
     }
     flag(present)
         && (parameter as usize) < parameters.len()
+        && parameters[parameter as usize][2] == width
         && ranges(parameters[parameter as usize])
             .any(|range| range[0] <= offset && offset <= range[1])
-        && dots <= 255
-        && fixed <= 255
+        && u64::from(dots) < 1 << width
+        && u64::from(fixed) < 1 << width
         && dots & fixed == 0
         && ones & !fixed == 0
 }
@@ -132,7 +135,7 @@ fn places_differ(registers: &[&[u32]]) -> bool {
 fn told_apart(one: &[u32], other: &[u32]) -> bool {
     let zero = |port: &[u32], bit: u32| port[4] >> bit & 1 == 1 && port[5] >> bit & 1 == 0;
     let set = |port: &[u32], bit: u32| port[4] >> bit & 1 == 1 && port[5] >> bit & 1 == 1;
-    (0..8).any(|bit| zero(one, bit) && set(other, bit) || set(one, bit) && zero(other, bit))
+    (0..32).any(|bit| zero(one, bit) && set(other, bit) || set(one, bit) && zero(other, bit))
 }
 
 /// Part 0 of a variable is its read part, part 1 its write part.
@@ -175,14 +178,18 @@ fn bits_good(part: usize, bits: &[u32], width: u32, registers: &[&[u32]]) -> boo
         }
 }
 
-/// Bits 7 to 0, not rising, of a register that has this part, all of them dots of its mask.
+/// Bits below the width, not rising, of a register that has this part, all of them dots of its mask.
 fn piece_good(part: usize, piece: &[u32], registers: &[&[u32]]) -> bool {
     let [register, high, low] = *piece else {
         return false;
     };
-    (register as usize) < registers.len() && high <= 7 && low <= high && {
-        let port = port(registers[register as usize], part);
-        port[0] == 1 && (low..=high).all(|bit| port[3] >> bit & 1 == 1)
+    (register as usize) < registers.len() && {
+        let register = registers[register as usize];
+        let port = port(register, part);
+        port[0] == 1
+            && high < register[2]
+            && low <= high
+            && (low..=high).all(|bit| port[3] >> bit & 1 == 1)
     }
 }
 
@@ -229,7 +236,7 @@ fn dots_mapped(part: usize, registers: &[&[u32]], variables: &[&[u32]]) -> bool 
     let mapped = mapped(part, variables).concat();
     (0..registers.len()).all(|register| {
         let dots = port(registers[register], part)[3];
-        (0..8).all(|bit| dots >> bit & 1 == 0 || mapped.contains(&(register as u32, bit)))
+        (0..32).all(|bit| dots >> bit & 1 == 0 || mapped.contains(&(register as u32, bit)))
     })
 }
 
@@ -389,6 +396,90 @@ mod tests {
             assert_ne!(tables[table][word], value, "no change: {table} {word}");
             tables[table][word] = value;
             assert_eq!(good(&tables), want, "table {table} word {word} to {value}");
+        }
+    }
+
+    /// Three parameters and two registers, wider than 8; the second has a parameter for each part.
+    fn wide_board() -> [Vec<u32>; 3] {
+        of("device d(a:bit[16] port,b:bit[32] port,c:bit[32] port){\
+            register r=a,mask '1..............0':bit[16];\
+            register s=read b,write c,mask '*...............................':bit[32];\
+            variable v=r[14..1]:int(14);variable w=s[30..0]:int(31);}")
+    }
+
+    /// Each line sets one word of the wide board: table, word, value, and whether the tables stay sound.
+    #[test]
+    fn one_word_of_a_wide_board() {
+        const P: usize = 0;
+        const R: usize = 1;
+        const V: usize = 2;
+        assert!(good(&wide_board()));
+        for (table, word, value, want) in [
+            // a width that no port has, and another port's
+            (P, 3, 0, false),
+            (P, 3, 12, false),
+            (P, 3, 17, false),
+            (P, 3, 24, false),
+            (P, 3, 64, false),
+            (P, 3, u32::MAX, false),
+            (P, 3, 8, false),
+            (P, 3, 32, false),
+            (P, 37 + 2, 16, false),
+            (P, 73 + 2, 16, false),
+            (R, 3, 8, false),
+            (R, 3, 15, false),
+            (R, 3, 32, false),
+            (R, 16 + 2, 16, false),
+            (R, 16 + 2, 33, false),
+            (R, 16 + 2, 64, false),
+            // the first register's read part moves to the third parameter, of another width; the
+            // second's too, whose width that is
+            (R, 5, 2, false),
+            (R, 16 + 4, 2, true),
+            // its mask of sixteen bits
+            (R, 7, 0x1_7FFE, false),
+            (R, 7, 0x7FFF, false),
+            (R, 8, 0x1_8001, false),
+            (R, 8, 0x8000, true),
+            (R, 9, 0x1_8000, false),
+            (R, 9, 0x8001, true),
+            // the second's of 32
+            (R, 16 + 6, u32::MAX, false),
+            (R, 16 + 7, 0x8000_0000, true),
+            (R, 16 + 8, 0x8000_0000, false),
+            // pieces
+            (V, 10, 13, false),
+            (V, 10, 15, false),
+            (V, 10, 16, false),
+            (V, 10, 31, false),
+            (V, 60 + 9, 31, false),
+            (V, 60 + 9, 32, false),
+            (V, 60 + 9, u32::MAX, false),
+            (V, 60 + 3, 32, false),
+        ] {
+            let mut tables = wide_board();
+            assert_ne!(tables[table][word], value, "no change: {table} {word}");
+            tables[table][word] = value;
+            assert_eq!(good(&tables), want, "table {table} word {word} to {value}");
+        }
+    }
+
+    /// The highest bit of each width tells two write parts apart, and no other does.
+    #[test]
+    fn told_apart_by_the_highest_bit() {
+        for width in WIDTHS {
+            let stars = "*".repeat(width as usize - 1);
+            let mut tables = of(&format!(
+                "device d(b:bit[{width}] port){{register p=write b,mask '1{stars}':bit[{width}];\
+                 register q=write b,mask '0{stars}':bit[{width}];}}"
+            ));
+            assert!(good(&tables));
+            // The write mask of q, fixed and ones.
+            let mask = 1 + 15 + 9 + 4;
+            for [fixed, ones] in [[0, 0], [1 << (width - 1); 2], [1 << (width - 2), 0]] {
+                tables[1][mask..][..2].copy_from_slice(&[fixed, ones]);
+                assert!(!good(&tables), "{width}: {fixed:x} {ones:x}");
+            }
         }
     }
 

@@ -1,11 +1,10 @@
 //! The station: reading and writing a variable, one access at a time.
 //!
-//! All state is the caller's: the record (for each register the last byte confirmed as written),
+//! All state is the caller's: the record (for each register the last number confirmed as written),
 //! the marks (one for each variable, 0 is clean), and the operation in hand. Every call takes any
 //! tables, tests its refusals from 20 up, and leaves everything unchanged when it refuses; only
-//! refusal 52 ends the operation in hand.
-
-use std::fmt;
+//! refusal 52 ends the operation in hand. In every number lent for a register, bits above its width
+//! count as 0.
 
 use crate::description::{Bits, Description, Kind, Part, Port, Variable};
 use crate::sound::sound;
@@ -42,7 +41,8 @@ pub struct Access {
     pub direction: Part,
     pub parameter: usize,
     pub offset: u32,
-    pub byte: u8,
+    /// What is written; 0 when reading.
+    pub number: u32,
 }
 
 #[derive(Clone, Copy, Debug, PartialEq, Eq)]
@@ -55,56 +55,32 @@ pub enum Answer {
     },
     Abandoned,
     Refused(u8),
-    /// Refusal 52: the byte read contradicts the fixed bits of this register, and the operation has ended.
+    /// Refusal 52: the number read contradicts the fixed bits of this register, and the operation has ended.
     Contradicted {
         register: usize,
     },
 }
 
-impl fmt::Display for Answer {
-    fn fmt(&self, f: &mut fmt::Formatter) -> fmt::Result {
-        match self {
-            Answer::Opened => write!(f, "opened"),
-            Answer::Offer(access) => {
-                let direction = match access.direction {
-                    Part::Read => "read",
-                    Part::Write => "write",
-                };
-                let Access {
-                    parameter,
-                    offset,
-                    byte,
-                    ..
-                } = access;
-                write!(f, "offer {direction} {parameter} {offset} 0x{byte:02X}")
-            }
-            Answer::Done { value, accesses } => write!(f, "done {value} {accesses}"),
-            Answer::Abandoned => write!(f, "abandoned"),
-            Answer::Refused(number) => write!(f, "refused {number}"),
-            Answer::Contradicted { register } => write!(f, "refused 52 {register}"),
-        }
-    }
-}
-
 type Answered = Result<Answer, u8>;
 
-/// Opens a station: the record takes the power-on bytes, all marks are cleared, and no operation
+/// Opens a station: the record takes the power-on numbers, all marks are cleared, and no operation
 /// is in hand.
 pub fn open(
     tables: Tables,
-    power_on: &[u8],
-    record: &mut [u8],
+    power_on: &[u32],
+    record: &mut [u32],
     marks: &mut [u8],
     operation: &mut Operation,
 ) -> Answer {
     answer((|| {
         let description = described(tables)?;
-        let registers = description.registers.len();
-        if power_on.len() < registers {
+        if power_on.len() < description.registers.len() {
             return Err(21);
         }
         long_enough(&description, record, marks)?;
-        record[..registers].copy_from_slice(&power_on[..registers]);
+        for (index, register) in description.registers.iter().enumerate() {
+            record[index] = register.cut(power_on[index]);
+        }
         marks[..description.variables.len()].fill(0);
         *operation = Operation::Idle;
         Ok(Answer::Opened)
@@ -114,7 +90,7 @@ pub fn open(
 /// Begins to read a variable: offers its first access.
 pub fn begin_read(
     tables: Tables,
-    record: &[u8],
+    record: &[u32],
     marks: &[u8],
     operation: &mut Operation,
     variable: usize,
@@ -140,7 +116,7 @@ pub fn begin_read(
 /// Begins to write a variable: offers its first access.
 pub fn begin_write(
     tables: Tables,
-    record: &[u8],
+    record: &[u32],
     marks: &[u8],
     operation: &mut Operation,
     variable: usize,
@@ -168,14 +144,14 @@ pub fn begin_write(
     })())
 }
 
-/// Confirms the access on offer, with the byte read; for a write the byte is ignored. A byte read that
-/// has not the fixed bits of its register ends the operation as if it were abandoned.
+/// Confirms the access on offer, with the number read; for a write the number is ignored. One that is
+/// read and has not the fixed bits of its register ends the operation as if it were abandoned.
 pub fn confirm(
     tables: Tables,
-    record: &mut [u8],
+    record: &mut [u32],
     marks: &mut [u8],
     operation: &mut Operation,
-    byte: u8,
+    number: u32,
 ) -> Answer {
     answer((|| {
         let description = described(tables)?;
@@ -190,11 +166,12 @@ pub fn confirm(
                     gathered,
                 } = reading;
                 let register = plan(bits)[step];
-                if !read_port(&description, register).mask.fits(byte) {
+                let number = description.registers[register].cut(number);
+                if !read_port(&description, register).mask.fits(number) {
                     *operation = Operation::Idle;
                     return Ok(Answer::Contradicted { register });
                 }
-                let gathered = gathered | gather(bits, register, byte);
+                let gathered = gathered | gather(bits, register, number);
                 let step = step + 1;
                 if step < plan(bits).len() {
                     *operation = Operation::Reading {
@@ -206,7 +183,7 @@ pub fn confirm(
                 }
                 *operation = Operation::Idle;
                 Ok(Answer::Done {
-                    value: number(&description.variables[variable], gathered),
+                    value: value_of(&description.variables[variable], gathered),
                     accesses: step,
                 })
             }
@@ -218,7 +195,7 @@ pub fn confirm(
                     value,
                 } = writing;
                 let access = write_access(&description, bits, step, value, record);
-                record[plan(bits)[step]] = access.byte;
+                record[plan(bits)[step]] = access.number;
                 let step = step + 1;
                 if step < plan(bits).len() {
                     *operation = Operation::Writing {
@@ -237,7 +214,7 @@ pub fn confirm(
                 marks[variable] = 0;
                 *operation = Operation::Idle;
                 Ok(Answer::Done {
-                    value: number(&description.variables[variable], value),
+                    value: value_of(&description.variables[variable], value),
                     accesses: step,
                 })
             }
@@ -248,7 +225,7 @@ pub fn confirm(
 /// Abandons the operation in hand. A write marks its variable half-written.
 pub fn abandon(
     tables: Tables,
-    record: &[u8],
+    record: &[u32],
     marks: &mut [u8],
     operation: &mut Operation,
 ) -> Answer {
@@ -283,7 +260,7 @@ fn described(tables: Tables) -> Result<Description, u8> {
 }
 
 /// Refusal 21, of the record and of the marks.
-fn long_enough(description: &Description, record: &[u8], marks: &[u8]) -> Result<(), u8> {
+fn long_enough(description: &Description, record: &[u32], marks: &[u8]) -> Result<(), u8> {
     if record.len() < description.registers.len() || marks.len() < description.variables.len() {
         return Err(21);
     }
@@ -328,7 +305,7 @@ fn in_hand<'d>(description: &'d Description, operation: &Operation) -> Result<In
                 return Err(22);
             }
             let possible = registers[..step].iter().fold(0, |bits_read, &register| {
-                bits_read | gather(bits, register, 0xFF)
+                bits_read | gather(bits, register, u32::MAX)
             });
             if gathered & !possible != 0 {
                 return Err(22);
@@ -390,28 +367,28 @@ fn places(bits: &Bits) -> Vec<(usize, u32)> {
     places
 }
 
-/// The bits of the value that a register's byte gives.
-fn gather(bits: &Bits, register: usize, byte: u8) -> u32 {
+/// The bits of the value that a register's number gives.
+fn gather(bits: &Bits, register: usize, number: u32) -> u32 {
     let mut gathered = 0;
     for (weight, (from, bit)) in places(bits).into_iter().enumerate() {
         if from == register {
-            gathered |= u32::from(byte >> bit & 1) << weight;
+            gathered |= (number >> bit & 1) << weight;
         }
     }
     gathered
 }
 
-/// The byte for a register: the variable's bits from the value, other dot bits from the record, `0`
+/// The number for a register: the variable's bits from the value, other dot bits from the record, `0`
 /// and `1` from the mask, `*` as 0.
-fn byte_to_write(bits: &Bits, register: usize, port: &Port, value: u32, recorded: u8) -> u8 {
-    let mut byte = recorded & port.mask.dots | port.mask.ones;
+fn number_to_write(bits: &Bits, register: usize, port: &Port, value: u32, recorded: u32) -> u32 {
+    let mut number = recorded & port.mask.dots | port.mask.ones;
     for (weight, (to, bit)) in places(bits).into_iter().enumerate() {
         if to == register {
-            byte &= !(1 << bit);
-            byte |= ((value >> weight & 1) as u8) << bit;
+            number &= !(1 << bit);
+            number |= (value >> weight & 1) << bit;
         }
     }
-    byte
+    number
 }
 
 fn read_port(description: &Description, register: usize) -> Port {
@@ -424,7 +401,7 @@ fn read_access(description: &Description, bits: &Bits, step: usize) -> Access {
         direction: Part::Read,
         parameter: port.parameter,
         offset: port.offset,
-        byte: 0,
+        number: 0,
     }
 }
 
@@ -433,15 +410,16 @@ fn write_access(
     bits: &Bits,
     step: usize,
     value: u32,
-    record: &[u8],
+    record: &[u32],
 ) -> Access {
     let register = plan(bits)[step];
+    let recorded = description.registers[register].cut(record[register]);
     let port = description.registers[register].write.expect("sound tables");
     Access {
         direction: Part::Write,
         parameter: port.parameter,
         offset: port.offset,
-        byte: byte_to_write(bits, register, &port, value, record[register]),
+        number: number_to_write(bits, register, &port, value, recorded),
     }
 }
 
@@ -459,7 +437,7 @@ fn pattern(variable: &Variable, value: i64) -> Result<u32, u8> {
 }
 
 /// The value of a bit pattern, two's complement where the type is signed.
-fn number(variable: &Variable, pattern: u32) -> i64 {
+fn value_of(variable: &Variable, pattern: u32) -> i64 {
     let size = 1i64 << variable.width;
     let value = i64::from(pattern);
     if variable.kind == Kind::Signed && value >= size / 2 {
@@ -472,6 +450,7 @@ fn number(variable: &Variable, pattern: u32) -> i64 {
 #[cfg(test)]
 mod tests {
     use super::*;
+    use crate::description::WIDTHS;
     use crate::load::{load, Verdict};
     use crate::tables::tables;
 
@@ -497,7 +476,7 @@ mod tests {
     /// All five calls over one state; each answer, with whether the state is as before.
     fn all_calls(
         tables: Tables,
-        record: &[u8],
+        record: &[u32],
         marks: &[u8],
         held: Operation,
     ) -> Vec<(Answer, bool)> {
@@ -642,47 +621,72 @@ mod tests {
         }
     }
 
-    /// A read of one register, over every mask element at a bit, both bytes: only a fixed bit that is
-    /// unlike the byte's is refused, and it names its register.
+    /// A register of this width behind another, its mask all dots but for one bit, and a variable over
+    /// the dots.
+    fn but_one_bit(width: u32, bit: u32, element: &str) -> [Vec<u32>; 3] {
+        let mut mask = ".".repeat(width as usize);
+        let at = (width - 1 - bit) as usize;
+        mask.replace_range(at..at + 1, element);
+        let mut pieces = Vec::new();
+        if bit < width - 1 {
+            pieces.push(format!("r[{}..{}]", width - 1, bit + 1));
+        }
+        if bit > 0 {
+            pieces.push(format!("r[{}..0]", bit - 1));
+        }
+        let text = format!(
+            "device d(a:bit[8] port,b:bit[{width}] port){{register q=a,mask '********':bit[8];\
+             register r=read b,mask '{mask}':bit[{width}];variable v={}:int({});}}",
+            pieces.join("#"),
+            width - 1
+        );
+        match load(text.as_bytes()) {
+            Verdict::Accepted { description } => tables(&description).into(),
+            refused => panic!("{refused}: {text}"),
+        }
+    }
+
+    /// A read of one register of each width, over every mask element at every bit: only a fixed bit that
+    /// is unlike the number's is refused, and it names its register.
     #[test]
     fn contradictions() {
-        for bit in 0..8 {
+        for (width, bit) in WIDTHS
+            .into_iter()
+            .flat_map(|width| (0..width).map(move |bit| (width, bit)))
+        {
             for (element, contradicted) in [
-                ('0', [false, true]),
-                ('1', [true, false]),
-                ('*', [false; 2]),
+                ("0", [false, true]),
+                ("1", [true, false]),
+                ("*", [false; 2]),
             ] {
-                let mut mask = "........".to_string();
-                mask.replace_range(7 - bit..8 - bit, &element.to_string());
-                let mut pieces = Vec::new();
-                if bit < 7 {
-                    pieces.push(format!("r[7..{}]", bit + 1));
-                }
-                if bit > 0 {
-                    pieces.push(format!("r[{}..0]", bit - 1));
-                }
-                let text = format!(
-                    "device d(b:bit[8] port@{{0..1}}){{register q=b@1,mask '********':bit[8];\
-                     register r=read b,mask '{mask}':bit[8];variable v={}:int(7);}}",
-                    pieces.join("#")
-                );
-                let Verdict::Accepted { description } = load(text.as_bytes()) else {
-                    panic!("{text}");
-                };
-                let words: [Vec<u32>; 3] = tables(&description).into();
-                for byte in 0..=255u8 {
+                let words = but_one_bit(width, bit, element);
+                let own = 1 << bit;
+                for number in [
+                    0,
+                    u32::MAX,
+                    own,
+                    !own,
+                    0x5A5A_5A5A,
+                    0xA5A5_A5A5,
+                    0xFFFF_0000,
+                ] {
                     let (mut record, mut marks) = (vec![7, 7], vec![0]);
                     let mut operation = Operation::Reading {
                         variable: 0,
                         step: 0,
                         gathered: 0,
                     };
-                    let answer =
-                        confirm(lent(&words), &mut record, &mut marks, &mut operation, byte);
+                    let answer = confirm(
+                        lent(&words),
+                        &mut record,
+                        &mut marks,
+                        &mut operation,
+                        number,
+                    );
                     assert_eq!(
                         answer == Answer::Contradicted { register: 1 },
-                        contradicted[usize::from(byte >> bit & 1)],
-                        "{mask}: {byte}"
+                        contradicted[(number >> bit & 1) as usize],
+                        "{width} {bit} {element}: {number:x}"
                     );
                     assert!(matches!(
                         answer,
@@ -694,6 +698,56 @@ mod tests {
                     );
                 }
             }
+        }
+    }
+
+    /// Bits above the width count as 0 in the power-on list, in a kept record and in a confirmation.
+    #[test]
+    fn bits_above_the_width() {
+        for width in WIDTHS {
+            let top = width - 1;
+            let dots = ".".repeat(width as usize - 2);
+            let text = format!(
+                "device d(b:bit[{width}] port){{register r=b,mask '0{dots}1':bit[{width}];\
+                 variable v=r[{}..2]:int({});variable w=r[1]:bool;}}",
+                top - 1,
+                width - 3
+            );
+            let Verdict::Accepted { description } = load(text.as_bytes()) else {
+                panic!("{text}");
+            };
+            let words: [Vec<u32>; 3] = tables(&description).into();
+            let all = ((1u64 << width) - 1) as u32;
+            let (mut record, mut marks) = (vec![9], vec![9; 2]);
+            let mut operation = Operation::Idle;
+            let tables = lent(&words);
+            open(tables, &[u32::MAX], &mut record, &mut marks, &mut operation);
+            assert_eq!(record, [all]);
+
+            // The bit above all others is fixed 0, and the lowest one 1.
+            record[0] = u32::MAX;
+            let offered = begin_write(tables, &record, &marks, &mut operation, 1, 0);
+            let number = all >> 1 & !2;
+            assert!(matches!(offered, Answer::Offer(access) if access.number == number));
+            assert_eq!(record, [u32::MAX]);
+            confirm(tables, &mut record, &mut marks, &mut operation, u32::MAX);
+            assert_eq!(record, [number]);
+
+            begin_read(tables, &record, &marks, &mut operation, 0);
+            let read = confirm(
+                tables,
+                &mut record,
+                &mut marks,
+                &mut operation,
+                !all | 1 | 4,
+            );
+            assert_eq!(
+                read,
+                Answer::Done {
+                    value: 1,
+                    accesses: 1
+                }
+            );
         }
     }
 

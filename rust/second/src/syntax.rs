@@ -77,11 +77,11 @@ pub struct ListText {
     pub pieces: Vec<PieceText>,
 }
 
-/// A whole register, bits 7 to 0, or one range of its bits.
+/// One range of a register's bits; without it the whole register.
 #[derive(Debug)]
 pub struct PieceText {
     pub register: Name,
-    pub bits: Range,
+    pub bits: Option<Range>,
 }
 
 #[derive(Clone, Copy, Debug, PartialEq, Eq)]
@@ -369,7 +369,7 @@ impl<'t> Reader<'t> {
             let register = self.name()?;
             if self.take_sign(Sign::OpenBracket)? {
                 loop {
-                    let bits = self.range(pieces.len(), PIECES)?;
+                    let bits = Some(self.range(pieces.len(), PIECES)?);
                     pieces.push(PieceText { register, bits });
                     if !self.take_sign(Sign::Comma)? {
                         break;
@@ -377,7 +377,7 @@ impl<'t> Reader<'t> {
                 }
                 self.sign(Sign::CloseBracket)?;
             } else {
-                let bits = Range { first: 7, last: 0 };
+                let bits = None;
                 pieces.push(PieceText { register, bits });
             }
             if !self.take_sign(Sign::Hash)? {

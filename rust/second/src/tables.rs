@@ -100,9 +100,9 @@ fn write_port(port: &Option<Port>, words: &mut [u32]) {
         words[0] = 1;
         words[1] = port.parameter as u32;
         words[2] = port.offset;
-        words[3] = u32::from(port.mask.dots);
-        words[4] = u32::from(port.mask.fixed);
-        words[5] = u32::from(port.mask.ones);
+        words[3] = port.mask.dots;
+        words[4] = port.mask.fixed;
+        words[5] = port.mask.ones;
     }
 }
 
@@ -187,9 +187,9 @@ fn read_port(words: &[u32]) -> Option<Port> {
         parameter: words[1] as usize,
         offset: words[2],
         mask: Mask {
-            dots: words[3] as u8,
-            fixed: words[4] as u8,
-            ones: words[5] as u8,
+            dots: words[3],
+            fixed: words[4],
+            ones: words[5],
         },
     })
 }
@@ -357,6 +357,33 @@ mod tests {
         assert_eq!(variables[119 + 32..119 + 59], [0; 27]);
         assert_eq!(variables[178 + 5..178 + 11], [1, 0, 1, 1, 7, 0]);
         assert_eq!(variables[178 + 32..178 + 38], [1, 1, 1, 1, 7, 0]);
+    }
+
+    /// Widths are recorded, masks have a bit for each of theirs, and a whole register is all its bits.
+    #[test]
+    fn wide_registers() {
+        let text = b"device d(a:bit[16] port,b:bit[32] port@{4}){\
+            register r=a,mask '1..............0':bit[16];register s=read b@4:bit[32];\
+            register t=write b@4,mask '1*0.............................':bit[32];\
+            variable v=r[14..1]:int(14);variable w=s:int(32);variable x=t[28..0]:int(29);}";
+        let (parameters, registers, variables) = loaded(text);
+        assert_eq!(parameters[3], 16);
+        assert_eq!(parameters[37 + 2], 32);
+        let mask = [0x7FFE, 0x8001, 0x8000];
+        assert_eq!(registers[3..7], [16, 1, 0, 0]);
+        assert_eq!(
+            (&registers[7..10], &registers[13..16]),
+            (&mask[..], &mask[..])
+        );
+        assert_eq!(registers[16 + 2..16 + 9], [32, 1, 1, 4, u32::MAX, 0, 0]);
+        assert_eq!(registers[16 + 9..16 + 15], [0; 6]);
+        let mask = [0x1FFF_FFFF, 0xA000_0000, 0x8000_0000];
+        assert_eq!(registers[31 + 2], 32);
+        assert_eq!(registers[31 + 12..31 + 15], mask);
+        assert_eq!(variables[6..12], [1, 0, 1, 0, 14, 1]);
+        assert_eq!(variables[60 + 3], 32);
+        assert_eq!(variables[60 + 5..60 + 11], [1, 0, 1, 1, 31, 0]);
+        assert_eq!(variables[119 + 32..119 + 38], [1, 0, 1, 2, 28, 0]);
     }
 
     #[test]

@@ -10,13 +10,13 @@ use second::{
 /// The second station, with the state that it keeps between calls.
 struct Station<'t> {
     tables: Tables<'t>,
-    record: Vec<u8>,
+    record: Vec<u32>,
     marks: Vec<u8>,
     operation: Operation,
 }
 
 impl Calls for Station<'_> {
-    fn open(&mut self, power: &[u8]) -> Answer {
+    fn open(&mut self, power: &[u32]) -> Answer {
         open(
             self.tables,
             power,
@@ -47,13 +47,13 @@ impl Calls for Station<'_> {
         )
     }
 
-    fn confirm(&mut self, byte: u8) -> Answer {
+    fn confirm(&mut self, number: u32) -> Answer {
         confirm(
             self.tables,
             &mut self.record,
             &mut self.marks,
             &mut self.operation,
-            byte,
+            number,
         )
     }
 
@@ -97,6 +97,7 @@ fn reading_gives_the_value_last_finished() {
         ("read back", 600),
         ("under the premise", 300),
         ("from a shared place", 20),
+        ("from a wide register", 100),
         ("contradicted", 100),
         ("half-written", 100),
     ] {

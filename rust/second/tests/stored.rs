@@ -145,6 +145,10 @@ fn every_answer_is_there() {
             .count();
         assert!(count > 0, "{start}");
     }
+    for digits in [2, 4, 8] {
+        let wide = |line: &&str| line.rsplit_once(" 0x").is_some_and(|n| n.1.len() == digits);
+        assert!(output.lines().any(|line| wide(&line)), "{digits} digits");
+    }
 }
 
 /// So does every answer to a piece, among scripts that fit into the proved program's space.

@@ -19,7 +19,7 @@ tables-at s = tablesOf (now (s .args .parameters)) (now (s .args .registers)) (n
 
 -- the call, as a function of the operation in hand
 abbrev call : tie.Start → Operation → Outcome
-call s operation = confirm sound (tables-at s) (lent (now (s .args .held)) (now (s .args .marks)) operation) (s .args .byte)
+call s operation = confirm sound (tables-at s) (lent (now (s .args .held)) (now (s .args .marks)) operation) (s .args .number)
 
 operation-of-requires : tie.Need-operation-of-requires
 operation-of-requires c κs = search needs
@@ -31,7 +31,7 @@ tell-requires : tie.Need-tell-requires
 tell-requires c κs =
     let told = c .before .before .before .before .before .before in
     let s = start told in
-    small-by (told .confirm .ensures) (confirm-small (tables-at s) (told .before .before .before .before .before .before .before .before .before .shared-slice-known2 .given) (lent (now (s .args .held)) (now (s .args .marks)) (told .before .before .before .operation-of .result)) (s .args .byte))
+    small-by (told .confirm .ensures) (confirm-small (tables-at s) (told .before .before .before .before .before .before .before .before .before .shared-slice-known2 .given) (lent (now (s .args .held)) (now (s .args .marks)) (told .before .before .before .operation-of .result)) (s .args .number))
 
 same-length : tie.Need-same-length
 same-length c = search needs

@@ -1,12 +1,14 @@
 //! Texts that break one rule on purpose, and texts damaged without a plan.
 
+use std::collections::BTreeMap;
+
 use super::source::{
     AttributeSource, KindSource, ListSource, ObjectSource, PortSource, RegisterSource,
     VariableSource,
 };
 use super::valid::{name, offset_tokens};
 use super::{source, spell, valid, Random, Shape, Source, Style};
-use crate::description::Part;
+use crate::description::{Part, WIDTHS};
 use crate::load::TEXT_BYTES;
 use crate::syntax::{DEPTH, NAME_BYTES, PARAMETERS, PIECES, RANGES, REGISTERS, VARIABLES};
 use crate::token::{scan, Token, RESERVED};
@@ -26,6 +28,7 @@ pub fn broken(random: &mut Random, rule: u8) -> Vec<u8> {
         registers: random.between(2, 9),
         variables: random.between(2, 12),
         name_bytes: random.between(1, 6),
+        wide: random.one_in(2),
         style: *random.pick(&[Style::Tight, Style::Plain, Style::Wild]),
     };
     let mut source = source(random, shape);
@@ -248,6 +251,7 @@ fn over_size(random: &mut Random, source: &mut Source) {
             let have = source.registers().count();
             for i in have..count {
                 let parameter = source.parameters[0].name.clone();
+                let width = source.parameters[0].width;
                 source.objects.push(ObjectSource::Register(RegisterSource {
                     name: format!("extra_{i}"),
                     ports: vec![PortSource {
@@ -256,7 +260,7 @@ fn over_size(random: &mut Random, source: &mut Source) {
                         offset: None,
                     }],
                     masks: Vec::new(),
-                    width: 8,
+                    width,
                 }));
             }
         }
@@ -426,7 +430,8 @@ fn wrong_ports(random: &mut Random, source: &mut Source) {
             register.ports[index].modifier = some_modifier(random);
         }
         2 => {
-            let length = *random.pick(&[1, 7, 7, 9, 9, 16]);
+            let width = register.width as usize;
+            let length = *random.pick(&[1, 8, 16, 32, width - 1, width - 1, width + 1, width + 1]);
             let mask = (0..length)
                 .map(|_| *random.pick(&['.', '0', '1', '*']))
                 .collect();
@@ -436,18 +441,29 @@ fn wrong_ports(random: &mut Random, source: &mut Source) {
         3 => {
             let mask = match register.masks.first() {
                 Some((_, mask)) => mask.clone(),
-                None => "........".to_string(),
+                None => dots(register),
             };
             register.masks.push((some_modifier(random), mask));
         }
         _ => {
-            if let Some((_, mask)) = register.masks.first_mut() {
-                mask.pop();
-            } else {
-                register.masks.push((None, ".......".to_string()));
+            let mask = match register.masks.first_mut() {
+                Some((_, mask)) => mask,
+                None => {
+                    register.masks.push((None, dots(register)));
+                    &mut register.masks[0].1
+                }
+            };
+            match random.one_in(2) {
+                true => drop(mask.pop()),
+                false => mask.push('.'),
             }
         }
     }
+}
+
+/// A dot for each bit of the register.
+fn dots(register: &RegisterSource) -> String {
+    ".".repeat(register.width as usize)
 }
 
 fn same_place(random: &mut Random, source: &mut Source) {
@@ -478,7 +494,7 @@ fn beside(random: &mut Random, source: &mut Source) {
         .iter()
         .find(|(modifier, _)| modifier.is_none_or(|of| of == part));
     let mut mask: Vec<char> = written
-        .map_or("........", |(_, mask)| mask)
+        .map_or(dots(register), |(_, mask)| mask.clone())
         .chars()
         .map(|element| match element {
             '0' | '1' if !random.one_in(4) => element,
@@ -500,7 +516,7 @@ fn beside(random: &mut Random, source: &mut Source) {
         name: "beside_it".to_string(),
         ports: vec![port],
         masks,
-        width: 8,
+        width: register.width,
     });
     let at = match random.one_in(2) {
         true => random.below(source.objects.len()),
@@ -510,24 +526,18 @@ fn beside(random: &mut Random, source: &mut Source) {
 }
 
 fn wrong_bits(random: &mut Random, source: &mut Source) {
-    let all: Vec<String> = source
-        .registers()
-        .map(|register| register.name.clone())
-        .collect();
+    let widths = widths(source);
+    let all: Vec<String> = widths.keys().cloned().collect();
     match random.below(9) {
         0 => {
             // A mapped bit is no dot any more.
             if let Some(register) = some_register(random, source) {
-                let bit = random.below(8);
+                let bit = random.below(register.width as usize);
                 let fixed = *random.pick(&["0", "1", "*"]);
-                match register.masks.first_mut() {
-                    Some((_, mask)) => mask.replace_range(bit..bit + 1, fixed),
-                    None => {
-                        let mut mask = "........".to_string();
-                        mask.replace_range(bit..bit + 1, fixed);
-                        register.masks.push((None, mask));
-                    }
+                if register.masks.is_empty() {
+                    register.masks.push((None, dots(register)));
                 }
+                register.masks[0].1.replace_range(bit..bit + 1, fixed);
             }
             return;
         }
@@ -545,31 +555,42 @@ fn wrong_bits(random: &mut Random, source: &mut Source) {
     let Some(variable) = some_variable(random, source) else {
         return;
     };
-    match random.below(6) {
-        0 => {
+    match random.below(9) {
+        0..=3 => {
+            // Over the width, or rising.
             let list = some_list(random, variable);
             let index = random.below(list.registers.len());
-            let ranges = list.registers[index].1.get_or_insert(vec![(7, 0)]);
+            let (register, ranges) = &mut list.registers[index];
+            let width = widths[register];
+            let ranges = ranges.get_or_insert(vec![(width - 1, 0)]);
             let at = random.below(ranges.len());
-            ranges[at] =
-                *random.pick(&[(8, 8), (8, 0), (0, 7), (3, 4), (2_147_483_647, 0), (9, 10)]);
+            ranges[at] = *random.pick(&[
+                (width, width),
+                (width, 0),
+                (width, width - 1),
+                (32, 32),
+                (2_147_483_647, 0),
+                (width + 1, width + 2),
+                (0, width - 1),
+                (3, 4),
+            ]);
         }
-        1 => {
+        4 => {
             let list = some_list(random, variable);
             let again = random.pick(&list.registers).clone();
             list.registers.push(again);
         }
-        2 => {
+        5 => {
             let list = some_list(random, variable);
             list.registers.push((random.pick(&all).clone(), None));
         }
-        3 => {
+        6 => {
             let mut list = variable.lists[0].clone();
             list.modifier = some_modifier(random);
             variable.lists.truncate(1);
             variable.lists.push(list);
         }
-        4 => some_list(random, variable).modifier = some_modifier(random),
+        7 => some_list(random, variable).modifier = some_modifier(random),
         _ => {
             // More than 32 bits, if there are registers enough.
             let list = some_list(random, variable);
@@ -582,17 +603,39 @@ fn wrong_bits(random: &mut Random, source: &mut Source) {
     }
 }
 
+/// The width of each register, by its name.
+fn widths(source: &Source) -> BTreeMap<String, u32> {
+    let registers = source.registers();
+    registers
+        .map(|register| (register.name.clone(), register.width))
+        .collect()
+}
+
+/// Widths that no port has.
+const NO_WIDTHS: [u32; 11] = [0, 1, 7, 9, 12, 15, 17, 24, 31, 33, 64];
+
 fn wrong_width(random: &mut Random, source: &mut Source) {
     match random.below(4) {
         0 => {
             let index = random.below(source.parameters.len());
-            source.parameters[index].width = *random.pick(&[0, 7, 9, 16, 32]);
+            source.parameters[index].width = *random.pick(&NO_WIDTHS);
         }
         1 => {
             if let Some(register) = some_register(random, source) {
-                register.width = *random.pick(&[0, 7, 9, 16, 32]);
+                restate(register, *random.pick(&NO_WIDTHS));
             }
         }
+        2 => match random.one_in(3) {
+            true => {
+                let index = random.below(source.parameters.len());
+                source.parameters[index].width = *random.pick(&WIDTHS);
+            }
+            false => {
+                if let Some(register) = some_register(random, source) {
+                    restate(register, *random.pick(&WIDTHS));
+                }
+            }
+        },
         _ => {
             if let Some(variable) = some_variable(random, source) {
                 variable.kind = match (variable.kind, random.below(4)) {
@@ -604,6 +647,15 @@ fn wrong_width(random: &mut Random, source: &mut Source) {
                 };
             }
         }
+    }
+}
+
+/// States another width for a register, and makes its masks as long: another length would be told first.
+fn restate(register: &mut RegisterSource, width: u32) {
+    register.width = width;
+    for (_, mask) in &mut register.masks {
+        let elements = mask.chars().chain(std::iter::repeat('*'));
+        *mask = elements.take(width.max(1) as usize).collect();
     }
 }
 
@@ -636,7 +688,8 @@ fn mapped_twice(random: &mut Random, source: &mut Source) {
         return;
     };
     let (register, ranges) = random.pick(&list.registers).clone();
-    let (high, _) = ranges.map_or((7, 0), |ranges| *random.pick(&ranges));
+    let whole = (widths(source)[&register] - 1, 0);
+    let (high, _) = ranges.map_or(whole, |ranges| *random.pick(&ranges));
     let modifier = list.modifier.or(some_modifier(random));
     let at = random.between(1, source.objects.len());
     source.objects.insert(

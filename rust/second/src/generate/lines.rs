@@ -20,6 +20,7 @@ pub fn damaged_line(random: &mut Random, mut line: Vec<u8>) -> Vec<u8> {
             let number = random.pick(&[
                 "18446744073709551615",
                 "18446744073709551616",
+                "4294967295",
                 "4294967296",
                 "-9223372036854775809",
                 "256",

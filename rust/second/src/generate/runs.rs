@@ -1,7 +1,8 @@
 //! Runs of calls over a text: good ones, refused ones, out of order, and abandoned at every step.
 
+use super::wide::{bits_above, number_for, some_number};
 use super::Random;
-use crate::description::{Bits, Description, Mask, Part, Variable, PARTS};
+use crate::description::{all_bits, Bits, Description, Mask, Part, Register, Variable, PARTS};
 use crate::load::{load, Verdict};
 use crate::replay::{Call, Session};
 use crate::station::{plan, Operation};
@@ -60,14 +61,14 @@ fn next(
     if session.operation() != Operation::Idle && !random.one_in(6) {
         return match random.below(5) {
             0 => Call::Abandon,
-            _ => Call::Confirm(byte_for(random, description, session.operation())),
+            _ => Call::Confirm(confirmation(random, description, session.operation())),
         };
     }
     match random.below(100) {
         0..=32 => good_write(random, description),
         33..=61 => read(random, description, session),
         62..=71 => bad_write(random, description),
-        72..=75 => Call::Confirm(random.byte()),
+        72..=75 => Call::Confirm(some_number(random)),
         76..=79 => Call::Abandon,
         80..=83 => open(random, description),
         84..=87 => lookup(random, description, text),
@@ -78,42 +79,51 @@ fn next(
     }
 }
 
-/// The mask of the register that an operation reads next, and how many registers it reads in all, if
-/// the tables allow it.
-fn next_read(description: &Description, operation: Operation) -> Option<(Mask, usize)> {
+/// The register that an operation reads next, its mask, and how many registers it reads in all, if the
+/// tables allow it.
+fn next_read(description: &Description, operation: Operation) -> Option<(&Register, Mask, usize)> {
     let Operation::Reading { variable, step, .. } = operation else {
         return None;
     };
     let bits = description.variables.get(variable)?.read.as_ref()?;
     let registers = plan(bits);
-    let port = description.registers[*registers.get(step)?].read?;
-    Some((port.mask, registers.len()))
+    let register = &description.registers[*registers.get(step)?];
+    Some((register, register.read?.mask, registers.len()))
 }
 
-/// A byte for a confirmation: for a read mostly one that obeys the mask, the more so the longer it
-/// is, so that long reads finish; else what a dead cable gives, or one fixed bit is wrong.
-fn byte_for(random: &mut Random, description: &Description, operation: Operation) -> u8 {
-    let byte = random.byte();
-    let Some((mask, length)) = next_read(description, operation) else {
-        return byte;
+/// A number for a confirmation: for a read mostly one that obeys the mask, the more so the longer it
+/// is, so that long reads finish; else what a dead cable gives, or one fixed bit is wrong. Now and
+/// then it has bits above the width.
+fn confirmation(random: &mut Random, description: &Description, operation: Operation) -> u32 {
+    let Some((register, mask, length)) = next_read(description, operation) else {
+        return some_number(random);
     };
-    let obeying = mask.obeying(byte);
+    let obeying = mask.obeying(number_for(random, register));
     if !random.one_in(if length > 3 { 12 } else { 3 }) {
         return obeying;
     }
-    let wrong = mask.fixed & 1u8.rotate_left(random.below(8) as u32);
-    *random.pick(&[0x00, 0xFF, obeying ^ wrong, obeying ^ mask.fixed])
+    let wrong = mask.fixed & 1 << random.below(register.width as usize);
+    *random.pick(&[0, u32::MAX, obeying ^ wrong, obeying ^ mask.fixed])
 }
 
-/// Mostly as many bytes as there are registers.
+/// Mostly as many numbers as there are registers.
 fn open(random: &mut Random, description: &Description) -> Call {
-    let count = description.registers.len();
-    let count = match random.below(12) {
-        0 => random.below(count),
-        1 => count + random.below(3),
-        _ => count,
-    };
-    Call::Open((0..count).map(|_| random.byte()).collect())
+    let registers = &description.registers;
+    let mut numbers = power_on(random, registers);
+    match random.below(12) {
+        0 => numbers.truncate(random.below(registers.len())),
+        1 => numbers.extend((0..random.below(3)).map(|_| some_number(random))),
+        _ => {}
+    }
+    Call::Open(numbers)
+}
+
+/// A number for each register.
+fn power_on(random: &mut Random, registers: &[Register]) -> Vec<u32> {
+    registers
+        .iter()
+        .map(|register| number_for(random, register))
+        .collect()
 }
 
 fn some_variable(random: &mut Random, description: &Description) -> usize {
@@ -124,7 +134,7 @@ fn some_variable(random: &mut Random, description: &Description) -> usize {
     }
 }
 
-/// Now and then a half-written variable, or one that a byte can contradict, if there is one.
+/// Now and then a half-written variable, or one that a number can contradict, if there is one.
 fn read(random: &mut Random, description: &Description, session: &Session) -> Call {
     let fixed = |variable: &usize| {
         let pieces = description.variables[*variable].read.iter();
@@ -224,29 +234,28 @@ fn held(random: &mut Random, description: &Description) -> Operation {
 }
 
 /// Each part of each variable: begun and abandoned after every number of confirmations, then done;
-/// and read up to each register that a byte can contradict.
+/// and read up to each register that a number can contradict.
 pub fn every_step(random: &mut Random, text: &[u8]) -> Vec<Call> {
     let Verdict::Accepted { description } = load(text) else {
         return Vec::new();
     };
-    let registers = description.registers.iter();
-    let mut calls = vec![Call::Open(registers.map(|_| random.byte()).collect())];
+    let mut calls = vec![Call::Open(power_on(random, &description.registers))];
     for (index, variable) in description.variables.iter().enumerate() {
         let (least, greatest) = variable.bounds();
         for part in PARTS {
             let Some(bits) = variable.part(part) else {
                 continue;
             };
-            let masks = masks_read(&description, part, bits);
-            for confirmations in 0..=masks.len() {
+            let due = confirmations_due(&description, part, bits);
+            for confirmations in 0..=due.len() {
                 let value = least + (random.number() % (greatest - least + 1) as u64) as i64;
                 calls.push(match part {
                     Part::Read => Call::Read(index),
                     Part::Write => Call::Write(index, value),
                 });
-                calls.extend(fitting(random, &masks[..confirmations]));
+                calls.extend(due[..confirmations].iter().map(|due| due.met(random)));
                 calls.push(Call::State);
-                if confirmations < masks.len() {
+                if confirmations < due.len() {
                     calls.push(Call::Abandon);
                     calls.push(Call::Read(index));
                     calls.push(Call::State);
@@ -256,11 +265,11 @@ pub fn every_step(random: &mut Random, text: &[u8]) -> Vec<Call> {
                     }
                 }
             }
-            for (step, mask) in masks.iter().enumerate() {
-                if mask.fixed != 0 {
+            for (step, missed) in due.iter().enumerate() {
+                if missed.mask.fixed != 0 {
                     calls.push(Call::Read(index));
-                    calls.extend(fitting(random, &masks[..step]));
-                    calls.push(Call::Confirm(mask.obeying(random.byte()) ^ mask.fixed));
+                    calls.extend(due[..step].iter().map(|due| due.met(random)));
+                    calls.push(missed.missed(random));
                     calls.push(Call::State);
                 }
             }
@@ -269,16 +278,40 @@ pub fn every_step(random: &mut Random, text: &[u8]) -> Vec<Call> {
     calls
 }
 
-/// What the confirmations of a part must fit, one after the other: anything will do for a write.
-fn masks_read(description: &Description, part: Part, bits: &Bits) -> Vec<Mask> {
-    let mask = |register: usize| match (part, description.registers[register].read) {
-        (Part::Read, Some(port)) => port.mask,
-        _ => Mask::DOTS,
-    };
-    plan(bits).into_iter().map(mask).collect()
+/// What a confirmation must fit: a mask of this width.
+struct Due {
+    width: u32,
+    mask: Mask,
 }
 
-fn fitting(random: &mut Random, masks: &[Mask]) -> Vec<Call> {
-    let confirm = |mask: &Mask| Call::Confirm(mask.obeying(random.byte()));
-    masks.iter().map(confirm).collect()
+/// What the confirmations of a part must fit, one after the other: anything will do for a write.
+fn confirmations_due(description: &Description, part: Part, bits: &Bits) -> Vec<Due> {
+    let due = |index: usize| {
+        let Register { width, read, .. } = description.registers[index];
+        let mask = match (part, read) {
+            (Part::Read, Some(port)) => port.mask,
+            _ => Mask::dots(width),
+        };
+        Due { width, mask }
+    };
+    plan(bits).into_iter().map(due).collect()
+}
+
+impl Due {
+    /// Any number that fits, as far as the mask is wide.
+    fn obeying(&self, random: &mut Random) -> u32 {
+        self.mask
+            .obeying(random.number() as u32 & all_bits(self.width))
+    }
+
+    fn met(&self, random: &mut Random) -> Call {
+        let number = self.obeying(random);
+        Call::Confirm(bits_above(random, self.width, number))
+    }
+
+    /// Every fixed bit is wrong.
+    fn missed(&self, random: &mut Random) -> Call {
+        let number = self.obeying(random) ^ self.mask.fixed;
+        Call::Confirm(bits_above(random, self.width, number))
+    }
 }

@@ -1,8 +1,11 @@
 //! Tables, sound ones and ones damaged in a word.
 
 use super::{valid, Random};
+use crate::description::WIDTHS;
 use crate::load::{load, Verdict};
-use crate::tables::{tables, PORT_ENTRY, REGISTER_ENTRY};
+use crate::tables::{
+    tables, BITS_ENTRY, PARAMETER_ENTRY, PORT_ENTRY, REGISTER_ENTRY, VARIABLE_ENTRY,
+};
 
 #[derive(Clone, Debug, PartialEq, Eq)]
 pub struct TableSet {
@@ -47,12 +50,19 @@ pub fn sound_tables(random: &mut Random) -> TableSet {
 }
 
 /// Sound tables with one word changed, or one table cut short, or two registers whose write parts
-/// are brought to one place or no longer told apart there.
+/// are brought to one place or no longer told apart there, or widths that are others.
 pub fn damaged_tables(random: &mut Random) -> TableSet {
     let mut set = sound_tables(random);
-    if random.one_in(8) {
-        one_write_place(random, &mut set.registers);
-        return set;
+    match random.below(8) {
+        0 => {
+            one_write_place(random, &mut set.registers);
+            return set;
+        }
+        1 => {
+            other_widths(random, &mut set);
+            return set;
+        }
+        _ => {}
     }
     let (table, entry) = match random.below(5) {
         0 => (&mut set.parameters, 36),
@@ -85,6 +95,47 @@ pub fn damaged_tables(random: &mut Random) -> TableSet {
         _ => random.number() as u32,
     };
     set
+}
+
+/// A parameter or a register takes another width, alone or all of them at once; or a mask, or a piece,
+/// has a bit above its register's width, or just below.
+fn other_widths(random: &mut Random, set: &mut TableSet) {
+    let width = match random.one_in(4) {
+        true => *random.pick(&[0, 1, 7, 9, 12, 15, 17, 24, 31, 33, 64, u32::MAX]),
+        false => *random.pick(&WIDTHS),
+    };
+    let entries = |table: &[u32], entry: usize| -> Vec<usize> {
+        (0..table[0] as usize).map(|i| 1 + entry * i).collect()
+    };
+    let parameters = entries(&set.parameters, PARAMETER_ENTRY);
+    let registers = entries(&set.registers, REGISTER_ENTRY);
+    let register = *random.pick(&registers);
+    match random.below(5) {
+        0 => set.parameters[*random.pick(&parameters) + 2] = width,
+        1 => set.registers[register + 2] = width,
+        2 => {
+            parameters
+                .iter()
+                .for_each(|at| set.parameters[at + 2] = width);
+            registers
+                .iter()
+                .for_each(|at| set.registers[at + 2] = width);
+        }
+        3 => {
+            let bit = set.registers[register + 2] - random.below(2) as u32;
+            let word = register + 3 + PORT_ENTRY * random.below(2) + 3 + random.below(3);
+            set.registers[word] |= 1u32.checked_shl(bit).unwrap_or(0);
+        }
+        _ => {
+            let variables = entries(&set.variables, VARIABLE_ENTRY);
+            if !variables.is_empty() {
+                let part = *random.pick(&variables) + 5 + BITS_ENTRY * random.below(2);
+                let own = registers[set.variables[part + 3] as usize];
+                let bit = set.registers[own + 2] - random.below(2) as u32;
+                set.variables[part + 4 + random.below(2)] = bit;
+            }
+        }
+    }
 }
 
 /// One register goes to the write place of another, if there are two; or two that are there already

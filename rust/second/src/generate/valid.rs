@@ -11,7 +11,7 @@ use super::source::{
     PortSource, RegisterSource, VariableSource,
 };
 use super::{Random, Source, Style};
-use crate::description::{Part, PARTS};
+use crate::description::{all_bits, Part, PARTS, WIDTHS};
 use crate::load::TEXT_BYTES;
 use crate::syntax::{DEPTH, NAME_BYTES, PARAMETERS, PIECES, RANGES, REGISTERS, VARIABLES};
 use crate::token::RESERVED;
@@ -24,6 +24,8 @@ pub struct Shape {
     pub registers: usize,
     pub variables: usize,
     pub name_bytes: usize,
+    /// Whether parameters may be wider than 8.
+    pub wide: bool,
     pub style: Style,
 }
 
@@ -37,6 +39,7 @@ impl Shape {
             registers: random.between(1, 5),
             variables: random.between(0, 8),
             name_bytes: random.between(1, 8),
+            wide: random.one_in(2),
             style,
         };
         match random.below(12) {
@@ -55,7 +58,7 @@ impl Shape {
                     registers: random.between(1, REGISTERS),
                     variables: random.between(0, VARIABLES),
                     name_bytes: random.between(1, 12),
-                    style,
+                    ..shape
                 }
             }
             6 => {
@@ -65,6 +68,7 @@ impl Shape {
                     registers: REGISTERS,
                     variables: VARIABLES,
                     name_bytes: 3,
+                    wide: false,
                     style: Style::Tight,
                 }
             }
@@ -99,6 +103,7 @@ pub fn valid(random: &mut Random) -> Vec<u8> {
 
 struct Register {
     name: String,
+    width: u32,
     /// Parameter and offset of each part.
     places: [Option<(usize, u32)>; 2],
     bare: bool,
@@ -109,14 +114,15 @@ struct Register {
 /// Fixed bits, and those of them that are 1.
 #[derive(Clone, Copy, Default)]
 struct Told {
-    fixed: u8,
-    ones: u8,
+    fixed: u32,
+    ones: u32,
 }
 
 impl Told {
-    /// Parts what is told so far by one more bit; its 1 goes to either of the two. `None` if all bits are fixed.
-    fn part(self, random: &mut Random) -> Option<(Told, Told)> {
-        let free: Vec<u8> = (0..8)
+    /// Parts what is told so far by one more bit below the width; its 1 goes to either of the two. `None`
+    /// if all bits are fixed.
+    fn part(self, random: &mut Random, width: u32) -> Option<(Told, Told)> {
+        let free: Vec<u32> = (0..width)
             .map(|bit| 1 << bit)
             .filter(|bit| self.fixed & bit == 0)
             .collect();
@@ -155,10 +161,10 @@ struct Piece {
 }
 
 /// Bits of each register.
-type Map = [u8; REGISTERS];
+type Map = [u32; REGISTERS];
 
-fn bits(piece: &Piece) -> u8 {
-    ((2u32 << piece.high) - (1 << piece.low)) as u8
+fn bits(piece: &Piece) -> u32 {
+    all_bits(piece.high + 1) & !all_bits(piece.low)
 }
 
 pub fn source(random: &mut Random, shape: Shape) -> Source {
@@ -266,7 +272,7 @@ fn parameters(random: &mut Random, names: &mut Names, shape: Shape) -> Vec<Param
             let bare = random.one_in(4) && !(i == roomy && shape.registers > 2);
             ParameterSource {
                 name: names.fresh(random),
-                width: 8,
+                width: if shape.wide { *random.pick(&WIDTHS) } else { 8 },
                 ranges: (!bare).then_some(ranges),
             }
         })
@@ -299,13 +305,18 @@ fn registers(
             let parameter = random.below(parameters.len());
             (parameter, some_offset(random, &parameters[parameter]))
         };
-        let (one, other) = (place(), place());
+        let (one, mut other) = (place(), place());
+        // Both ports have the register's width.
+        let width = parameters[one.0].width;
+        if parameters[other.0].width != width {
+            other = (one.0, some_offset(random, &parameters[one.0]));
+        }
         if random.one_in(6) {
             let read = random.one_in(2).then_some(one);
             if read
                 .is_none_or(|(parameter, offset)| !taken.contains(&(Part::Read, parameter, offset)))
             {
-                if let Some(register) = beside(random, names, &mut registers, read) {
+                if let Some(register) = beside(random, names, &mut registers, width, read) {
                     taken.extend(read.map(|(parameter, offset)| (Part::Read, parameter, offset)));
                     registers.push(register);
                     continue;
@@ -328,6 +339,7 @@ fn registers(
             }
             registers.push(Register {
                 name: names.fresh(random),
+                width,
                 places,
                 bare,
                 told: Told::default(),
@@ -338,27 +350,29 @@ fn registers(
     registers
 }
 
-/// A register at the write place of an earlier one, told from it by one bit more, and so from all
-/// others there.
+/// A register of this width at the write place of an earlier one, told from it by one bit more, and so
+/// from all others there.
 fn beside(
     random: &mut Random,
     names: &mut Names,
     registers: &mut [Register],
+    width: u32,
     read: Option<(usize, u32)>,
 ) -> Option<Register> {
     let mut writable: Vec<&mut Register> = registers
         .iter_mut()
-        .filter(|register| register.places[1].is_some())
+        .filter(|register| register.width == width && register.places[1].is_some())
         .collect();
     if writable.is_empty() {
         return None;
     }
     let index = random.below(writable.len());
     let earlier = &mut writable[index];
-    let (own, told) = earlier.told.part(random)?;
+    let (own, told) = earlier.told.part(random, width)?;
     earlier.told = own;
     Some(Register {
         name: names.fresh(random),
+        width,
         places: [read, earlier.places[1]],
         bare: false,
         told,
@@ -376,7 +390,7 @@ fn variables(
     let mut free: [Map; 2] = [[0; REGISTERS]; 2];
     for (i, register) in registers.iter().enumerate() {
         for (map, place) in free.iter_mut().zip(register.places) {
-            map[i] = if place.is_some() { 0xFF } else { 0 };
+            map[i] = place.map_or(0, |_| all_bits(register.width));
         }
         free[1][i] &= !register.told.fixed;
     }
@@ -445,23 +459,23 @@ fn bit_lists(
     let [read, write] = free;
     match random.below(10) {
         0 => {
-            let pieces = deal(random, read, most, None)?;
+            let pieces = deal(random, registers, read, most, None)?;
             Some((
                 vec![(Some(Part::Read), pieces.clone())],
                 [Some(pieces), None],
             ))
         }
         1 => {
-            let pieces = deal(random, write, most, None)?;
+            let pieces = deal(random, registers, write, most, None)?;
             Some((
                 vec![(Some(Part::Write), pieces.clone())],
                 [None, Some(pieces)],
             ))
         }
         2 | 3 => {
-            let reading = deal(random, read, most, None)?;
+            let reading = deal(random, registers, read, most, None)?;
             let width = reading.iter().map(|p| p.high - p.low + 1).sum();
-            let writing = deal(random, write, width, Some(width))?;
+            let writing = deal(random, registers, write, width, Some(width))?;
             let mut lists = vec![
                 (Some(Part::Read), reading.clone()),
                 (Some(Part::Write), writing.clone()),
@@ -481,7 +495,7 @@ fn bit_lists(
                     _ => read[i] & write[i],
                 };
             }
-            let pieces = deal(random, &available, most, None)?;
+            let pieces = deal(random, registers, &available, most, None)?;
             let given = |part: usize| {
                 let has = |piece: &Piece| registers[piece.register].places[part].is_some();
                 pieces.iter().all(has)
@@ -506,6 +520,7 @@ fn bit_lists(
 /// Up to eight pieces of available bits, `most` bits or fewer, or exactly so many.
 fn deal(
     random: &mut Random,
+    registers: &[Register],
     available: &Map,
     most: u32,
     exactly: Option<u32>,
@@ -524,7 +539,8 @@ fn deal(
             Some(register) if left[register] != 0 && random.one_in(3) => register,
             _ => *random.pick(&choices),
         };
-        let set: Vec<u32> = (0..8)
+        let width = registers[register].width;
+        let set: Vec<u32> = (0..width)
             .filter(|bit| left[register] >> bit & 1 == 1)
             .collect();
         let high = *random.pick(&set);
@@ -541,8 +557,8 @@ fn deal(
             high,
             low,
         };
-        if left[register] == 0xFF && most - count >= 8 && random.one_in(2) {
-            piece.high = 7;
+        if left[register] == all_bits(width) && most - count >= width && random.one_in(2) {
+            piece.high = width - 1;
             piece.low = 0;
         }
         left[register] &= !bits(&piece);
@@ -556,7 +572,7 @@ fn deal(
 fn write_register(
     random: &mut Random,
     register: &Register,
-    dots: [u8; 2],
+    dots: [u32; 2],
     parameters: &[ParameterSource],
     style: Style,
     one_mask: bool,
@@ -582,18 +598,19 @@ fn write_register(
     let alike = !present[0] || !present[1] || dots[0] == dots[1];
     let common = if present[0] { dots[0] } else { dots[1] };
     let told = [Told::default(), register.told];
-    if alike && common == 0xFF && !random.one_in(6) {
-        // No mask means eight dots.
+    let width = register.width;
+    if alike && common == all_bits(width) && !random.one_in(6) {
+        // No mask means a dot for each bit.
     } else if alike && random.one_in(3) {
-        masks.push((None, mask(random, common, register.told)));
+        masks.push((None, mask(random, width, common, register.told)));
     } else if alike && one_mask && present == [true; 2] {
-        let mask = mask(random, common, register.told);
+        let mask = mask(random, width, common, register.told);
         masks.extend(PARTS.map(|part| (Some(part), mask.clone())));
         random.shuffle(&mut masks);
     } else {
         for (i, part) in PARTS.into_iter().enumerate() {
-            if present[i] && (dots[i] != 0xFF || random.one_in(6)) {
-                masks.push((Some(part), mask(random, dots[i], told[i])));
+            if present[i] && (dots[i] != all_bits(width) || random.one_in(6)) {
+                masks.push((Some(part), mask(random, width, dots[i], told[i])));
             }
         }
         random.shuffle(&mut masks);
@@ -602,12 +619,12 @@ fn write_register(
         name: register.name.clone(),
         ports,
         masks,
-        width: 8,
+        width,
     }
 }
 
-fn mask(random: &mut Random, dots: u8, told: Told) -> String {
-    (0..8)
+fn mask(random: &mut Random, width: u32, dots: u32, told: Told) -> String {
+    (0..width)
         .rev()
         .map(|bit| 1 << bit)
         .map(
@@ -685,12 +702,13 @@ fn join(random: &mut Random, pieces: &[Piece], registers: &[Register]) -> Vec<Pi
     let mut before = None;
     for piece in pieces {
         let range = (piece.high, piece.low);
+        let whole = (registers[piece.register].width - 1, 0);
         let name = registers[piece.register].name.clone();
         match joined.last_mut() {
             Some((_, Some(ranges))) if before == Some(piece.register) && !random.one_in(3) => {
                 ranges.push(range);
             }
-            _ if range == (7, 0) && !random.one_in(4) => joined.push((name, None)),
+            _ if range == whole && !random.one_in(4) => joined.push((name, None)),
             _ => joined.push((name, Some(vec![range]))),
         }
         before = Some(piece.register);

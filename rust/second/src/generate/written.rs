@@ -23,9 +23,13 @@ pub fn written(description: &Description) -> Vec<u8> {
         let ports = PARTS
             .into_iter()
             .filter_map(|part| Some((part, register.part(part)?)));
-        let masks = ports
-            .clone()
-            .map(|(part, port)| format!(",{} mask '{}'", word(part), elements(port.mask)));
+        let masks = ports.clone().map(|(part, port)| {
+            format!(
+                ",{} mask '{}'",
+                word(part),
+                elements(port.mask, register.width)
+            )
+        });
         let masks = join(masks, "");
         let ports =
             ports.map(|(part, port)| format!("{} p{}@{}", word(part), port.parameter, port.offset));
@@ -67,7 +71,8 @@ fn word(part: Part) -> &'static str {
     }
 }
 
-fn elements(mask: Mask) -> String {
+/// As many elements as the width says, as far as a mask has bits.
+fn elements(mask: Mask, width: u32) -> String {
     let element = |bit: u32| match (
         mask.dots >> bit & 1,
         mask.fixed >> bit & 1,
@@ -78,7 +83,7 @@ fn elements(mask: Mask) -> String {
         (0, 1, _) => '1',
         _ => '*',
     };
-    (0..8).rev().map(element).collect()
+    (0..width.min(32)).rev().map(element).collect()
 }
 
 fn pieces(bits: &Bits) -> String {

@@ -21,5 +21,7 @@ pub fn cases(list: &mut List) {
     board!("uart16550.devil", "1 10 19");
     board!("mc146818.devil", "1 2 3");
     board!("parallel.devil", "1 3 12");
-    board!("ne2000.devil", "1 28 27");
+    board!("ne2000.devil", "2 29 28");
+    board!("ide.devil", "3 12 19");
+    board!("pci.devil", "1 3 20");
 }

@@ -22,7 +22,7 @@ pub fn scripts() -> Vec<Script> {
     ]
 }
 
-const NO_CALLS: &str = "open 256 -> unknown
+const NO_CALLS: &str = "open 4294967296 -> unknown
     open 1 2 x -> unknown
     open -0 -> unknown
     open 0x -> unknown
@@ -45,7 +45,7 @@ const NO_CALLS: &str = "open 256 -> unknown
     write 0 -9223372036854775809 -> unknown
     confirm -> unknown
     confirm -1 -> unknown
-    confirm 256 -> unknown
+    confirm 4294967296 -> unknown
     confirm 0 0 -> unknown
     abandon 0 -> unknown
     lookup v v -> unknown
@@ -77,7 +77,7 @@ const NUMBERS: &str = "open 0x0a -> opened
     state -> record 0C marks 0 operation idle
     open 1 2 3 4 5 6 7 8 9 10 11 12 13 14 15 16 17 18 19 20 21 22 23 24 25 26 27 28 29 30 31 32 33 34 35 36 37 38 39 40 41 42 43 44 45 46 47 48 49 50 51 52 53 54 55 56 57 58 59 60 61 62 63 64 65 66 -> opened
     state -> record 01 marks 0 operation idle
-    open 1 2 3 4 5 6 7 8 9 10 11 12 13 14 15 16 17 18 19 20 21 22 23 24 25 26 27 28 29 30 31 32 33 34 35 36 37 38 39 40 41 42 43 44 45 46 47 48 49 50 51 52 53 54 55 56 57 58 59 60 61 62 63 64 65 256 -> unknown
+    open 1 2 3 4 5 6 7 8 9 10 11 12 13 14 15 16 17 18 19 20 21 22 23 24 25 26 27 28 29 30 31 32 33 34 35 36 37 38 39 40 41 42 43 44 45 46 47 48 49 50 51 52 53 54 55 56 57 58 59 60 61 62 63 64 65 4294967296 -> unknown
     read   0x0 -> offer read 0 0 0x00
     confirm 0XFF -> unknown
     confirm\t0xfF\t -> done 255 1

@@ -16,6 +16,7 @@ mod runs;
 mod scripts;
 mod sizes;
 mod tokens;
+mod widths;
 
 pub use pieces::{scripts as piece_scripts, PieceScript};
 
@@ -84,6 +85,7 @@ pub fn scripts() -> Vec<Script> {
     scripts.extend(limits::scripts());
     scripts.extend(places::scripts());
     scripts.extend(contradictions::scripts());
+    scripts.extend(widths::scripts());
     scripts.extend(runs::scripts());
     scripts.extend(lines::scripts());
     scripts
@@ -95,6 +97,7 @@ pub fn texts() -> Vec<Case> {
     order::cases(&mut list);
     rules::cases(&mut list);
     places::cases(&mut list);
+    widths::cases(&mut list);
     boards::cases(&mut list);
     list.0
 }

@@ -292,14 +292,14 @@ fn order(list: &mut List) {
         "12 of a register that is told apart",
         12,
         device(
-            "register r=write b,mask '1*******':bit[8];register ^s=write b,mask '0*******':bit[7];",
+            "register r=write b,mask '*1******':bit[8];register ^s=write b,mask '0******':bit[7];",
         ),
     );
     list.refused(
         "10 of a register that is not, before 12",
         10,
         device(
-            "register r=write b,mask '1*******':bit[8];register ^s=write b,mask '1*******':bit[7];",
+            "register r=write b,mask '*1******':bit[8];register ^s=write b,mask '1******':bit[7];",
         ),
     );
     list.refused(

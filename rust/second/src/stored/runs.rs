@@ -1,4 +1,4 @@
-//! Scripts that no paper writes: a life of the scoring board, and generated ones.
+//! Scripts that no paper writes: lives of the boards, and generated ones.
 
 use super::Script;
 use crate::generate::{damaged_line, every_step, run, valid, Random};
@@ -7,7 +7,7 @@ use crate::generate::{damaged_line, every_step, run, valid, Random};
 const LONGEST: usize = 700;
 
 pub fn scripts() -> Vec<Script> {
-    let mut scripts = vec![scoring()];
+    let mut scripts = lives();
     let mut random = Random::new(16);
     for number in 0..120 {
         let text = short_text(&mut random);
@@ -65,14 +65,24 @@ fn generated(kind: &str, number: usize, text: Vec<u8>, calls: &[crate::replay::C
     }
 }
 
-/// The script that lies beside the board's description. Its comments `; -> ..` are the answers.
-fn scoring() -> Script {
-    let lines = include_str!("../../../../boards/scoring.script");
+/// The scripts that lie beside a board's description. Their comments `; -> ..` are the answers.
+fn lives() -> Vec<Script> {
+    macro_rules! board {
+        ($name:literal) => {
+            life(
+                $name,
+                include_str!(concat!("../../../../boards/", $name, ".devil")),
+                include_str!(concat!("../../../../boards/", $name, ".script")),
+            )
+        };
+    }
+    vec![board!("scoring"), board!("ide"), board!("pci")]
+}
+
+fn life(board: &str, text: &str, lines: &str) -> Script {
     let answers = lines.lines().filter_map(|line| line.strip_prefix("; -> "));
     Script {
-        name: "scoring-board".to_string(),
-        text: include_bytes!("../../../../boards/scoring.devil").to_vec(),
-        lines: lines.as_bytes().to_vec(),
         expected: Some(answers.map(str::to_string).collect()),
+        ..Script::open(&format!("{board}-board"), text, lines)
     }
 }

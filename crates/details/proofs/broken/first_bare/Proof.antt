@@ -10,10 +10,10 @@ use Rattle.details.proofs.broken.first_bare.Statement.{statement}
 use Rattle.details.proofs.broken.first_bare.Tie as tie
 
 abbrev Inv-loop : tie.InvT-loop
-Inv-loop registers variables i part b₀ b = (b ≤ 8) × (firstOf b (bare registers variables i part) ≡ b)
+Inv-loop registers variables i part b₀ b = (b ≤ 32) × (firstOf b (bare registers variables i part) ≡ b)
 
 abbrev μ-loop : tie.MeasureT-loop
-μ-loop registers variables i part b₀ b = 8 - b
+μ-loop registers variables i part b₀ b = 32 - b
 
 loop-holds : tie.Need-loop-holds Inv-loop μ-loop
 loop-holds c = (omega arith, first-none _)

@@ -10,10 +10,10 @@ use Rattle.details.proofs.rows.same_holders.Statement.{statement}
 use Rattle.details.proofs.rows.same_holders.Tie as tie
 
 abbrev Inv-loop : tie.InvT-loop
-Inv-loop variables i ok₀ b₀ ok b = (b ≤ 8) × (ok ≡ every b (sameBit variables i))
+Inv-loop variables i ok₀ b₀ ok b = (b ≤ 32) × (ok ≡ every b (sameBit variables i))
 
 abbrev μ-loop : tie.MeasureT-loop
-μ-loop variables i ok₀ b₀ ok b = 8 - b
+μ-loop variables i ok₀ b₀ ok b = 32 - b
 
 loop-holds : tie.Need-loop-holds Inv-loop μ-loop
 loop-holds c = (omega arith, sym (every-none _))

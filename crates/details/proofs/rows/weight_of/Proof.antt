@@ -19,7 +19,7 @@ weight-in-requires : tie.Need-weight-in-requires
 weight-in-requires c κs = search needs
 
 returns : tie.Need-returns
-returns c = record { is = c .weight-in .ensures .is ∙ ap (weightIn (c .before .before .before .args .variables .now) (c .before .before .before .args .part) (32 * c .before .before .before .args .i + c .before .before .before .args .b)) (c .before .holder-of .ensures); small = c .weight-in .ensures .small }
+returns c = record { is = c .weight-in .ensures .is ∙ ap (weightIn (c .before .before .before .args .variables .now) (c .before .before .before .args .part) (64 * c .before .before .before .args .i + c .before .before .before .args .b)) (c .before .holder-of .ensures); small = c .weight-in .ensures .small }
 
 pub weight-of-spec : {M : Type 1} → statement M
 weight-of-spec =

@@ -6,34 +6,34 @@ use Rattle.explain.proofs.row.show_row.Statement.{statement}
 use Rattle.explain.proofs.row.show_row.Tie as tie
 
 abbrev Inv-loop : tie.InvT-loop
-Inv-loop text registers variables i part label left₀ t9 left = left ≤ left
+Inv-loop text registers variables i part marks left₀ left = left ≤ left
 
 abbrev μ-loop : tie.MeasureT-loop
-μ-loop text registers variables i part label left₀ t9 left = left
+μ-loop text registers variables i part marks left₀ left = left
 
-write-requires : tie.Need-write-requires Inv-loop μ-loop
-write-requires c κs = search needs
+register-width-requires : tie.Need-register-width-requires Inv-loop μ-loop
+register-width-requires c κs = search needs
+
+narrow-requires : tie.Need-narrow-requires Inv-loop μ-loop
+narrow-requires c κs = search needs
 
 loop-holds : tie.Need-loop-holds Inv-loop μ-loop
 loop-holds c = omega arith
 
-show-next-requires : tie.Need-show-next-requires Inv-loop μ-loop
-show-next-requires c κs = search needs
+lowest-of-requires : tie.Need-lowest-of-requires Inv-loop μ-loop
+lowest-of-requires c κs = search needs
 
-less-requires : tie.Need-less-requires Inv-loop μ-loop
-less-requires c κs = search needs
+show-head-requires : tie.Need-show-head-requires Inv-loop μ-loop
+show-head-requires c κs = search needs
+
+show-cells-requires : tie.Need-show-cells-requires Inv-loop μ-loop
+show-cells-requires c κs = search needs
 
 loop-less : tie.Need-loop-less Inv-loop μ-loop
 loop-less c = omega arith
 
 loop-again : tie.Need-loop-again Inv-loop μ-loop
 loop-again c = omega arith
-
-slice-aggregate-write : tie.Need-slice-aggregate-write Inv-loop μ-loop
-slice-aggregate-write c = search needs
-
-write-requires-2 : tie.Need-write-requires-2 Inv-loop μ-loop
-write-requires-2 c κs = search needs
 
 returns : tie.Need-returns Inv-loop μ-loop
 returns c = search needs
@@ -44,12 +44,12 @@ show-row-spec =
     (tie.spec
     Inv-loop
     μ-loop
-    write-requires
+    register-width-requires
+    narrow-requires
     loop-holds
-    show-next-requires
-    less-requires
+    lowest-of-requires
+    show-head-requires
+    show-cells-requires
     loop-less
     loop-again
-    slice-aggregate-write
-    write-requires-2
     returns)

@@ -14,8 +14,8 @@ slice-aggregate-is c = search needs
 is-requires : tie.Need-is-requires
 is-requires c κs = search needs
 
-count-bytes-requires : tie.Need-count-bytes-requires
-count-bytes-requires c κs = search needs
+count-numbers-requires : tie.Need-count-numbers-requires
+count-numbers-requires c κs = search needs
 
 or-zero-requires : tie.Need-or-zero-requires
 or-zero-requires c κs = search needs
@@ -25,7 +25,7 @@ with-number-requires c κs = search needs
 
 returns : tie.Need-returns
 unfolding callBy
-returns c = chosen-here _ _ _ (sym (c .before .before .before .before .is .ensures) ∙ c .before .before .before .if1 .taken) (c .with-number .ensures ∙ with-number _ Open _ (c .before .or-zero .ensures) ∙ ap (λ (n : Number). withNumber n Open) (c .before .before .count-bytes .ensures))
+returns c = chosen-here _ _ _ (sym (c .before .before .before .before .is .ensures) ∙ c .before .before .before .if1 .taken) (c .with-number .ensures ∙ with-number _ Open _ (c .before .or-zero .ensures) ∙ ap (λ (n : Number). withNumber n Open) (c .before .before .count-numbers .ensures))
 
 slice-aggregate-is-2 : tie.Need-slice-aggregate-is-2
 slice-aggregate-is-2 c = search needs
@@ -111,7 +111,7 @@ call-by-spec =
     (tie.spec
     slice-aggregate-is
     is-requires
-    count-bytes-requires
+    count-numbers-requires
     or-zero-requires
     with-number-requires
     returns

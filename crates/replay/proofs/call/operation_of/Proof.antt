@@ -1,10 +1,12 @@
 -- `replay::call::operation_of` meets its contract. Assumes nothing.
 use native.Mathlib.Omega.{arith}
 use mathlib.Core.Path.{sym, ap, _∙_}
+use Prim.Native.Nat.{_^_}
+use Rattle.bits.specs.Widths.{widest}
 use Rattle.script.specs.Numbers.{numberOf}
 use Rattle.script.specs.declared.numbers.Number.{Number}
 use Rattle.replay.specs.declared.call.Request.the-variants.{Read, Confirm}
-use Rattle.replay.specs.Fields.{belowOf}
+use Rattle.replay.specs.Fields.{carriedOf}
 use Rattle.replay.specs.Calls.{withNumber}
 use Rattle.replay.proofs.FieldLaws.{below-small}
 use Rattle.replay.proofs.CallLaws.{with-number, chosen-here, chosen-on, chosen-none}
@@ -54,23 +56,20 @@ is-requires-3 c κs = search needs
 only-word-requires-2 : tie.Need-only-word-requires-2
 only-word-requires-2 c κs = search needs
 
-number-of-requires-2 : tie.Need-number-of-requires-2
-number-of-requires-2 c κs = search needs
-
-below-requires : tie.Need-below-requires
-below-requires c κs = search needs
+carried-requires : tie.Need-carried-requires
+carried-requires c κs = search needs
 
 or-zero-requires-2 : tie.Need-or-zero-requires-2
 or-zero-requires-2 c κs = search needs
 
-cast-b : tie.Need-cast-b
-cast-b c = omega (arith, c .or-zero2 .ensures, below-small 256 _ _ (omega arith) (c .before .below .ensures))
+cast-n : tie.Need-cast-n
+cast-n c = omega (arith, c .or-zero2 .ensures, below-small (2 ^ widest) _ _ (omega arith) (c .before .carried .ensures))
 
 with-number-requires-2 : tie.Need-with-number-requires-2
 with-number-requires-2 c κs = search needs
 
 returns-3 : tie.Need-returns-3
-returns-3 c = chosen-on _ _ _ (sym (c .before .before .before .before .before .before .before .before .before .before .before .before .is .ensures) ∙ c .before .before .before .before .before .before .before .before .before .before .before .if1 .left) (chosen-on _ _ _ (sym (c .before .before .before .before .before .before .before .before .before .is2 .ensures) ∙ c .before .before .before .before .before .before .before .before .if2 .left) (chosen-here _ _ _ (sym (c .before .before .before .before .before .before .is3 .ensures) ∙ c .before .before .before .before .before .if3 .taken) (c .with-number2 .ensures ∙ with-number _ Confirm _ (c .before .or-zero2 .ensures) ∙ ap (λ (n : Number). withNumber n Confirm) (c .before .before .below .ensures ∙ ap (belowOf 256) (c .before .before .before .number-of2 .ensures ∙ ap numberOf (c .before .before .before .before .only-word2 .ensures))))))
+returns-3 c = chosen-on _ _ _ (sym (c .before .before .before .before .before .before .before .before .before .before .before .is .ensures) ∙ c .before .before .before .before .before .before .before .before .before .before .if1 .left) (chosen-on _ _ _ (sym (c .before .before .before .before .before .before .before .before .is2 .ensures) ∙ c .before .before .before .before .before .before .before .if2 .left) (chosen-here _ _ _ (sym (c .before .before .before .before .before .is3 .ensures) ∙ c .before .before .before .before .if3 .taken) (c .with-number2 .ensures ∙ with-number _ Confirm _ (c .before .or-zero2 .ensures) ∙ ap (λ (n : Number). withNumber n Confirm) (c .before .before .carried .ensures ∙ ap carriedOf (c .before .before .before .only-word2 .ensures)))))
 
 slice-aggregate-is-4 : tie.Need-slice-aggregate-is-4
 slice-aggregate-is-4 c = search needs
@@ -105,10 +104,9 @@ operation-of-spec =
     slice-aggregate-is-3
     is-requires-3
     only-word-requires-2
-    number-of-requires-2
-    below-requires
+    carried-requires
     or-zero-requires-2
-    cast-b
+    cast-n
     with-number-requires-2
     returns-3
     slice-aggregate-is-4

@@ -11,11 +11,11 @@ use Rattle.replay.proofs.fields.lay.Statement.{statement}
 use Rattle.replay.proofs.fields.lay.Tie as tie
 
 abbrev Inv-loop : tie.InvT-loop
-Inv-loop tail bytes₀ more₀ at₀ bytes more at =
-    (laid (wordsOf tail) 0 bytes₀ ≡ laid (wordsOf more) at bytes) × (length bytes ≡ length bytes₀) × (at + length more ≤ length tail)
+Inv-loop tail numbers₀ more₀ at₀ numbers more at =
+    (laid (wordsOf tail) 0 numbers₀ ≡ laid (wordsOf more) at numbers) × (length numbers ≡ length numbers₀) × (at + length more ≤ length tail)
 
 abbrev μ-loop : tie.MeasureT-loop
-μ-loop tail bytes₀ more₀ at₀ bytes more at = length more
+μ-loop tail numbers₀ more₀ at₀ numbers more at = length more
 
 loop-holds : tie.Need-loop-holds Inv-loop μ-loop
 loop-holds c = (refl, refl, omega arith)
@@ -29,8 +29,8 @@ same-length c = c .before .before .loop .inv .1
 returns : tie.Need-returns Inv-loop μ-loop
 returns c = sym (c .before .before .loop .inv .0 ∙ laid-end _ _ (c .before .word .ensures) _ _ (c .if1 .taken))
 
-byte-of-requires : tie.Need-byte-of-requires Inv-loop μ-loop
-byte-of-requires c κs = search needs
+lent-number-requires : tie.Need-lent-number-requires Inv-loop μ-loop
+lent-number-requires c κs = search needs
 
 put-requires : tie.Need-put-requires Inv-loop μ-loop
 put-requires c κs = search needs
@@ -46,8 +46,8 @@ loop-less c = tail-shorter _ _ (c .before .before .before .before .before .befor
 
 loop-again : tie.Need-loop-again Inv-loop μ-loop
 loop-again c = (
-  c .before .before .before .before .before .before .before .before .loop .inv .0 ∙ laid-on _ _ (c .before .before .before .before .before .before .before .word .ensures) (c .before .before .before .before .before .before .if1 .left) _ (c .rest .ensures) _ _ _ _ (c .before .before .before .before .before .byte-of .ensures) (c .before .before .before .put .ensures),
-  stored-length (c .before .before .before .before .before .before .before .before .loop .bytes) _ (c .before .before .before .before .before .before .before .before .loop .at) (c .before .before .before .before .before .byte-of .result) (c .before .before .before .put .ensures) ∙ c .before .before .before .before .before .before .before .before .loop .inv .1,
+  c .before .before .before .before .before .before .before .before .loop .inv .0 ∙ laid-on _ _ (c .before .before .before .before .before .before .before .word .ensures) (c .before .before .before .before .before .before .if1 .left) _ (c .rest .ensures) _ _ _ _ (c .before .before .before .before .before .lent-number .ensures) (c .before .before .before .put .ensures),
+  stored-length (c .before .before .before .before .before .before .before .before .loop .numbers) _ (c .before .before .before .before .before .before .before .before .loop .at) (c .before .before .before .before .before .lent-number .result) (c .before .before .before .put .ensures) ∙ c .before .before .before .before .before .before .before .before .loop .inv .1,
   omega (arith, c .before .before .before .before .before .before .before .before .loop .inv .2, tail-shorter _ _ (c .before .before .before .before .before .before .before .word .ensures) (c .before .before .before .before .before .before .if1 .left) _ (c .rest .ensures)),
 )
 
@@ -61,7 +61,7 @@ lay-spec =
     word-requires
     same-length
     returns
-    byte-of-requires
+    lent-number-requires
     put-requires
     add-at
     rest-requires

@@ -23,11 +23,11 @@ slice-aggregate-say c = search needs
 say-requires : tie.Need-say-requires
 say-requires c κs = search needs
 
-slice-aggregate-bytes : tie.Need-slice-aggregate-bytes
-slice-aggregate-bytes c = sym (length-take-le _ _ (c .before .before .before .before .before .lent .ensures .1))
+slice-aggregate-numbers-of : tie.Need-slice-aggregate-numbers-of
+slice-aggregate-numbers-of c = sym (length-take-le _ _ (c .before .before .before .before .before .lent .ensures .1))
 
-bytes-requires : tie.Need-bytes-requires
-bytes-requires c κs = search needs
+numbers-of-requires : tie.Need-numbers-of-requires
+numbers-of-requires c κs = search needs
 
 slice-aggregate-say-2 : tie.Need-slice-aggregate-say-2
 slice-aggregate-say-2 c = search needs
@@ -35,11 +35,11 @@ slice-aggregate-say-2 c = search needs
 say-requires-2 : tie.Need-say-requires-2
 say-requires-2 c κs = search needs
 
-slice-aggregate-bytes-2 : tie.Need-slice-aggregate-bytes-2
-slice-aggregate-bytes-2 c = sym (length-take-le _ _ (c .before .before .before .before .before .before .before .lent2 .ensures .1))
+slice-aggregate-marks-of : tie.Need-slice-aggregate-marks-of
+slice-aggregate-marks-of c = sym (length-take-le _ _ (c .before .before .before .before .before .before .before .lent2 .ensures .1))
 
-bytes-requires-2 : tie.Need-bytes-requires-2
-bytes-requires-2 c κs = search needs
+marks-of-requires : tie.Need-marks-of-requires
+marks-of-requires c κs = search needs
 
 operation-requires : tie.Need-operation-requires
 operation-requires c κs = search needs
@@ -63,12 +63,12 @@ state-spec =
     lent-requires-2
     slice-aggregate-say
     say-requires
-    slice-aggregate-bytes
-    bytes-requires
+    slice-aggregate-numbers-of
+    numbers-of-requires
     slice-aggregate-say-2
     say-requires-2
-    slice-aggregate-bytes-2
-    bytes-requires-2
+    slice-aggregate-marks-of
+    marks-of-requires
     operation-requires
     slice-aggregate-say-3
     say-requires-3

@@ -1,11 +1,11 @@
 -- `rules::lists::resolve` meets its contract.
 use Prim.Native.Nat.{_≤_, _-_}
 use native.Mathlib.Omega.{arith}
-use borrow.Author.Needs.{needs}
 use mathlib.Core.Path.{_≡_, refl, _∙_, ap}
 use lib.ListN.{length}
 use Rattle.rules.specs.Lists.{unknownIn, piecesOn}
 use Rattle.rules.proofs.ListLaws.{unknown-none, unknown-more, pieces-none, pieces-more}
+use borrow.Author.Needs.{needs}
 use Rattle.rules.proofs.lists.resolve.Statement.{statement}
 use Rattle.rules.proofs.lists.resolve.Tie as tie
 
@@ -42,6 +42,12 @@ or-else-requires c κs = search needs
 index-of-requires : tie.Need-index-of-requires Inv-loop μ-loop
 index-of-requires c κs = search needs
 
+narrow-requires : tie.Need-narrow-requires Inv-loop μ-loop
+narrow-requires c κs = search needs
+
+high-of-requires : tie.Need-high-of-requires Inv-loop μ-loop
+high-of-requires c κs = search needs
+
 mul-item-2 : tie.Need-mul-item-2 Inv-loop μ-loop
 mul-item-2 c = search needs
 
@@ -50,15 +56,6 @@ add-item c = search needs
 
 item-requires-2 : tie.Need-item-requires-2 Inv-loop μ-loop
 item-requires-2 c κs = search needs
-
-mul-item-3 : tie.Need-mul-item-3 Inv-loop μ-loop
-mul-item-3 c = search needs
-
-add-item-2 : tie.Need-add-item-2 Inv-loop μ-loop
-add-item-2 c = search needs
-
-item-requires-3 : tie.Need-item-requires-3 Inv-loop μ-loop
-item-requires-3 c κs = search needs
 
 mul-store-piece : tie.Need-mul-store-piece Inv-loop μ-loop
 mul-store-piece c = search needs
@@ -75,9 +72,9 @@ loop-less c = search needs
 loop-again : tie.Need-loop-again Inv-loop μ-loop
 loop-again c = (
   omega arith,
-  c .before .before .store-piece .kept .0 ∙ c .before .before .before .before .before .before .before .before .before .before .before .before .before .loop .inv .1,
-  unknown-more _ _ _ _ (c .before .before .before .before .before .before .before .before .before .before .before .before .before .loop .inv .2) (c .before .before .before .before .before .before .before .before .before .before .before .piece-named .ensures) (c .before .before .before .before .before .before .before .before .before .before .item .ensures) (c .before .before .before .before .before .before .before .before .before .is-nothing .ensures) (c .before .before .before .before .before .before .before .before .fault-if .ensures) (c .before .before .before .before .before .before .before .or-else .ensures),
-  pieces-more _ _ _ _ _ (c .before .before .before .before .before .before .before .before .before .before .before .before .before .loop .inv .3) (c .before .before .before .before .before .before .before .before .before .before .before .piece-named .ensures) (c .before .before .before .before .before .before .index-of .ensures) (c .before .before .before .before .before .item2 .ensures) (c .before .before .before .before .item3 .ensures) (c .before .before .store-piece .ensures),
+  c .before .before .store-piece .kept .0 ∙ c .before .before .before .before .before .before .before .before .before .before .before .before .before .before .loop .inv .1,
+  unknown-more _ _ _ _ (c .before .before .before .before .before .before .before .before .before .before .before .before .before .before .loop .inv .2) (c .before .before .before .before .before .before .before .before .before .before .before .before .piece-named .ensures) (c .before .before .before .before .before .before .before .before .before .before .before .item .ensures) (c .before .before .before .before .before .before .before .before .before .before .is-nothing .ensures) (c .before .before .before .before .before .before .before .before .before .fault-if .ensures) (c .before .before .before .before .before .before .before .before .or-else .ensures),
+  pieces-more _ _ _ _ _ (c .before .before .before .before .before .before .before .before .before .before .before .before .before .before .loop .inv .3) (c .before .before .before .before .before .before .before .before .before .before .before .before .piece-named .ensures) (c .before .before .before .before .before .before .before .index-of .ensures) (c .before .before .before .before .before .before .narrow .ensures) (c .before .before .before .before .before .high-of .ensures) (c .before .before .before .before .item2 .ensures) (c .before .before .store-piece .ensures),
 )
 
 same-length : tie.Need-same-length Inv-loop μ-loop
@@ -103,12 +100,11 @@ resolve-spec =
     fault-if-requires
     or-else-requires
     index-of-requires
+    narrow-requires
+    high-of-requires
     mul-item-2
     add-item
     item-requires-2
-    mul-item-3
-    add-item-2
-    item-requires-3
     mul-store-piece
     store-piece-requires
     add-k

@@ -16,9 +16,12 @@ at-most-one-requires c κs = search needs
 at-most-one-requires-2 : tie.Need-at-most-one-requires-2
 at-most-one-requires-2 c κs = search needs
 
+masks-long-requires : tie.Need-masks-long-requires
+masks-long-requires c κs = search needs
+
 returns : tie.Need-returns
 unfolding masksKept
-returns c = rw (c .before .at-most-one2 .ensures, c .before .before .at-most-one .ensures, c .before .before .before .has-part2 .ensures, c .before .before .before .before .has-part .ensures)
+returns c = rw (c .masks-long .ensures, c .before .at-most-one2 .ensures, c .before .before .at-most-one .ensures, c .before .before .before .has-part2 .ensures, c .before .before .before .before .has-part .ensures)
 
 pub masks-kept-spec : {M : Type 1} → statement M
 masks-kept-spec =
@@ -28,4 +31,5 @@ masks-kept-spec =
     has-part-requires-2
     at-most-one-requires
     at-most-one-requires-2
+    masks-long-requires
     returns)

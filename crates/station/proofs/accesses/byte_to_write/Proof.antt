@@ -1,12 +1,15 @@
--- `station::accesses::byte_to_write` meets its contract: the register is 8 bits wide, so what is assembled over its width is a byte.
-use Prim.Native.Nat.{ℕ, _<_, _^_}
-use mathlib.Core.Path.{_≡_, _∙_, ap, subst}
+-- `station::accesses::byte_to_write` meets its contract: what is assembled over a register's width fits an access.
+use Prim.Native.Nat.{_<_, _≤_, _^_}
+use native.Mathlib.Nat.{lt-of-lt-of-le}
+use lib.Pow.{pow-mono}
+use mathlib.Core.Path.{_∙_, ap}
 use native.Mathlib.Omega.{arith}
 use denote.Ref.{now}
 use borrow.Author.Needs.{needs}
 use Rattle.wiring.specs.declared.Cell.{Cell}
 use Rattle.wiring.specs.declared.Rule.the-variants.{Written}
 use Rattle.wiring.specs.Assembly.{bitBy}
+use Rattle.bits.specs.Widths.{widest}
 use Rattle.bits.proofs.BitLaws.{number-lt}
 use Rattle.station.specs.Access.{byteToWrite}
 use Rattle.station.proofs.Laws.{assembled-same, usable-same}
@@ -37,10 +40,10 @@ assemble-requires c κs = (usable-same (c .before .before .part-of .ensures) (c 
 cast-result : tie.Need-cast-result
 cast-result c =
     let a = c .before .before .before .before .before .before .before .args in
-    let width : c .before .word .result ≡ 8 = c .before .word .ensures .is ∙ c .before .before .before .before .before .before .before .pre .1 .1 .wide in
+    let width : c .before .word .result ≤ widest = omega (arith, c .before .word .ensures .is, c .before .before .before .before .before .before .before .pre .1 .1 .wide) in
     let below : c .assemble .result < 2 ^ c .before .word .result =
     rw (c .assemble .ensures) (number-lt (c .before .word .result) (bitBy (now (a .variables)) (c .before .before .before .part-of .result) (Written (c .before .before .cell-of .result) (a .value)))) in
-    record { fits = subst (λ (n : ℕ). c .assemble .result < 2 ^ n) width below }
+    record { fits = lt-of-lt-of-le below (pow-mono width) }
 
 returns : tie.Need-returns
 unfolding byteToWrite

@@ -40,14 +40,11 @@ add-word-6 c = search needs
 word-requires-2 : tie.Need-word-requires-2
 word-requires-2 c κs = search needs
 
-byte-at-requires : tie.Need-byte-at-requires
-byte-at-requires c κs = search needs
-
-cast-byte : tie.Need-cast-byte
-cast-byte c = search needs
+word-requires-3 : tie.Need-word-requires-3
+word-requires-3 c κs = search needs
 
 returns : tie.Need-returns
-returns c = simp (sym (c .before .before .word .ensures .is), sym (c .before .word2 .ensures .is), sym (c .byte-at .ensures))
+returns c = simp (sym (c .before .before .word .ensures .is), sym (c .before .word2 .ensures .is), sym (c .word3 .ensures .is))
 
 pub cell-of-spec : {M : Type 1} → statement M
 cell-of-spec =
@@ -65,6 +62,5 @@ cell-of-spec =
     add-word-5
     add-word-6
     word-requires-2
-    byte-at-requires
-    cast-byte
+    word-requires-3
     returns)

@@ -17,6 +17,12 @@ byte-to-write-requires c κs =
     let p = c .before .before .before .before .before .pre in
     (p .0 .few, (p .0 .usable, subst (λ (r : ℕ). Byte (now (c .before .before .before .before .before .args .registers)) r) (sym (c .before .register-of .ensures)) (p .0 .bytes _ (p .1 .0))))
 
+mul-held : tie.Need-mul-held
+mul-held c =
+    let p = c .before .before .before .before .before .before .pre in
+    let few = p .0 .bytes _ (p .1 .0) .few in
+    record { fits = omega (arith, c .before .before .register-of .ensures, few) }
+
 slice-write-held : tie.Need-slice-write-held
 slice-write-held c =
     let p = c .before .before .before .before .before .before .pre in
@@ -33,4 +39,4 @@ returns c = rw (c .byte-to-write .ensures, c .before .before .register-of .ensur
 pub record-byte-spec : {M : Type 1} → statement M
 record-byte-spec =
     tie.close
-    (tie.spec register-of-requires byte-to-write-requires slice-write-held same-length returns)
+    (tie.spec register-of-requires byte-to-write-requires mul-held slice-write-held same-length returns)

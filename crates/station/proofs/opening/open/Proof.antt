@@ -1,15 +1,14 @@
 -- `station::opening::open` meets its contract.
 use Prim.Native.Nat.{ℕ}
 use mathlib.Core.Path.{_∙_, ap, refl}
-use mathlib.Core.List.{[]}
 use denote.Ref.{now}
-use borrow.Author.Needs.{needs}
 use Rattle.tables.specs.View.{Tables}
 use Rattle.station.specs.Standing.{tablesOf}
-use Rattle.station.specs.Station.{State, stateOf, copied}
+use Rattle.station.specs.Station.{State, stateOf, stored, powerOf}
 use Rattle.station.proofs.CallLaws.{opens}
 use Rattle.station.proofs.Meeting.{meets-refused, meets-passed}
 use Rattle.station.proofs.Bridge.{open-is}
+use borrow.Author.Needs.{needs}
 use Rattle.station.proofs.opening.open.Statement.{statement}
 use Rattle.station.proofs.opening.open.Tie as tie
 
@@ -31,20 +30,17 @@ returns c = meets-refused (state-at (c .before .before .before .before .before .
 word-requires : tie.Need-word-requires
 word-requires c κs = search needs
 
-copy-bytes-requires : tie.Need-copy-bytes-requires
-copy-bytes-requires c κs =
+copy-numbers-requires : tie.Need-copy-numbers-requires
+copy-numbers-requires c κs =
     let clear = opens (tables-at (c .before .before .before .before .before .before .before .before .before .before)) _ _ _ _ (c .before .before .before .open-fault .ensures) (c .before .before .if1 .left) in
-    rw (c .word .ensures .is) (clear .held-long)
-
-slice-aggregate-copy-bytes : tie.Need-slice-aggregate-copy-bytes
-slice-aggregate-copy-bytes c = search needs
+    (rw (c .word .ensures .is) (clear .held-long), c .word .ensures .small)
 
 word-requires-2 : tie.Need-word-requires-2
 word-requires-2 c κs = search needs
 
-copy-bytes-requires-2 : tie.Need-copy-bytes-requires-2
-copy-bytes-requires-2 c κs =
-    let clear = opens (tables-at (c .before .before .before .before .before .before .before .before .before .before .before .before .before .before .before .before)) _ _ _ _ (c .before .before .before .before .before .before .before .before .before .open-fault .ensures) (c .before .before .before .before .before .before .before .before .if1 .left) in
+clear-marks-requires : tie.Need-clear-marks-requires
+clear-marks-requires c κs =
+    let clear = opens (tables-at (c .before .before .before .before .before .before .before .before .before .before .before .before .before .before .before)) _ _ _ _ (c .before .before .before .before .before .before .before .before .open-fault .ensures) (c .before .before .before .before .before .before .before .if1 .left) in
     rw (c .word2 .ensures .is) (clear .marks-long)
 
 same-length : tie.Need-same-length
@@ -55,11 +51,11 @@ same-length-2 c = search needs
 
 returns-2 : tie.Need-returns-2
 returns-2 c =
-    let a = c .before .before .before .before .before .before .before .before .before .before .before .before .before .before .before .before .before .before .before .args in
-    meets-passed (state-at (c .before .before .before .before .before .before .before .before .before .before .before .before .before .before .before .before .before .before .before)) _ (open-is (tables-at (c .before .before .before .before .before .before .before .before .before .before .before .before .before .before .before .before .before .before .before)) (now (c .before .before .before .before .before .before .before .before .before .before .before .before .before .before .before .before .before .before .before .args .power)) (state-at (c .before .before .before .before .before .before .before .before .before .before .before .before .before .before .before .before .before .before .before))) (c .before .before .before .before .before .before .before .before .before .before .before .before .open-fault .ensures) (c .before .before .before .before .before .before .before .before .before .before .before .if1 .left) refl (record {
+    let a = c .before .before .before .before .before .before .before .before .before .before .before .before .before .before .before .before .before .before .args in
+    meets-passed (state-at (c .before .before .before .before .before .before .before .before .before .before .before .before .before .before .before .before .before .before)) _ (open-is (tables-at (c .before .before .before .before .before .before .before .before .before .before .before .before .before .before .before .before .before .before)) (now (c .before .before .before .before .before .before .before .before .before .before .before .before .before .before .before .before .before .before .args .power)) (state-at (c .before .before .before .before .before .before .before .before .before .before .before .before .before .before .before .before .before .before))) (c .before .before .before .before .before .before .before .before .before .before .before .open-fault .ensures) (c .before .before .before .before .before .before .before .before .before .before .if1 .left) refl (record {
       outcome-is = refl;
-      held-is = c .before .before .before .before .before .before .before .before .copy-bytes .ensures ∙ ap (λ (n : ℕ). copied (now (a .power)) (now (a .held)) n) (c .before .before .before .before .before .before .before .before .before .word .ensures .is);
-      marks-is = c .before .before .copy-bytes2 .ensures ∙ ap (λ (n : ℕ). copied [] (now (a .marks)) n) (c .before .before .before .word2 .ensures .is);
+      held-is = c .before .before .before .before .before .before .before .copy-numbers .ensures ∙ ap (λ (n : ℕ). stored (powerOf (now (a .registers)) (now (a .power))) (now (a .held)) n) (c .before .before .before .before .before .before .before .before .word .ensures .is);
+      marks-is = c .before .before .clear-marks .ensures ∙ ap (λ (n : ℕ). stored (λ v. 0) (now (a .marks)) n) (c .before .before .before .word2 .ensures .is);
     })
 
 pub open-spec : {M : Type 1} → statement M
@@ -70,10 +66,9 @@ open-spec =
     refuse-requires
     returns
     word-requires
-    copy-bytes-requires
-    slice-aggregate-copy-bytes
+    copy-numbers-requires
     word-requires-2
-    copy-bytes-requires-2
+    clear-marks-requires
     same-length
     same-length-2
     returns-2)

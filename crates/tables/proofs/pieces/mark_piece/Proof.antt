@@ -1,5 +1,6 @@
 -- `tables::pieces::mark_piece` meets its contract: the answer is rewritten with what the calls promise.
 use Rattle.tables.proofs.MarkLaws.{marks-both}
+use Rattle.bits.specs.Widths.{widest}
 use Rattle.tables.specs.Marks.{downFrom, marks}
 use Prim.Native.Nat.{ℕ, _+_, _*_}
 use mathlib.Core.Path.{ap, _∙_}
@@ -32,7 +33,7 @@ returns : tie.Need-returns
 returns c =
     let s = c .before .before .before .before .before .before .before .before .before .before .before .before .args in
     marks-both (s .map .now) _ _ (c .before .before .before .before .before .before .mark-run .ensures) (c .before .before .before .before .before .before .before .before .piece-run .ensures .bits)
-    (c .before .before .mark-run2 .ensures ∙ ap (λ (r : ℕ). marks (c .before .before .before .before .before .before .mark-run .last .0) (downFrom (32 * r + 8) (s .held))) (c .before .before .before .before .before .before .before .before .before .word .ensures .is))
+    (c .before .before .mark-run2 .ensures ∙ ap (λ (r : ℕ). marks (c .before .before .before .before .before .before .mark-run .last .0) (downFrom (64 * r + widest) (s .held))) (c .before .before .before .before .before .before .before .before .before .word .ensures .is))
 
 pub mark-piece-spec : {M : Type 1} → statement M
 mark-piece-spec =

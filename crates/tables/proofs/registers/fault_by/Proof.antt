@@ -4,17 +4,8 @@ use borrow.Author.Needs.{needs}
 use Rattle.tables.proofs.registers.fault_by.Statement.{statement}
 use Rattle.tables.proofs.registers.fault_by.Tie as tie
 
-mul-word : tie.Need-mul-word
-mul-word c = search needs
-
-add-word : tie.Need-add-word
-add-word c = search needs
-
-add-word-2 : tie.Need-add-word-2
-add-word-2 c = search needs
-
-word-requires : tie.Need-word-requires
-word-requires c κs = search needs
+width-kept-requires : tie.Need-width-kept-requires
+width-kept-requires c κs = search needs
 
 mul-part-placed : tie.Need-mul-part-placed
 mul-part-placed c = search needs
@@ -57,16 +48,13 @@ pick-requires-3 c κs = search needs
 
 returns : tie.Need-returns
 unfolding faultBy
-returns c = rw (c .pick3 .ensures, c .before .pick2 .ensures, c .before .before .pick .ensures, c .before .before .before .part-placed2 .ensures, c .before .before .before .before .part-placed .ensures, c .before .before .before .before .before .word .ensures .is)
+returns c = rw (c .pick3 .ensures, c .before .pick2 .ensures, c .before .before .pick .ensures, c .before .before .before .part-placed2 .ensures, c .before .before .before .before .part-placed .ensures, c .before .before .before .before .before .width-kept .ensures)
 
 pub fault-by-spec : {M : Type 1} → statement M
 fault-by-spec =
     tie.close
     (tie.spec
-    mul-word
-    add-word
-    add-word-2
-    word-requires
+    width-kept-requires
     mul-part-placed
     add-part-placed
     mul-part-placed-2

@@ -5,13 +5,14 @@ use native.Mathlib.Omega.{arith}
 use borrow.Author.Needs.{needs}
 use denote.Ref.{now}
 use lib.Pow.{pow-mono}
+use Rattle.bits.specs.Widths.{widest}
 use Rattle.bits.proofs.BitLaws.{number-none, number-turn, number-lt}
 use Rattle.wiring.specs.Assembly.{bitBy, assembled}
 use Rattle.wiring.proofs.assembly.assemble.Statement.{statement}
 use Rattle.wiring.proofs.assembly.assemble.Tie as tie
 
 abbrev Inv-loop : tie.InvT-loop
-Inv-loop variables part rule width total₀ b₀ total b = (b ≤ width) × (width ≤ 32) × (total ≡ assembled variables part rule b)
+Inv-loop variables part rule width total₀ b₀ total b = (b ≤ width) × (width ≤ widest) × (total ≡ assembled variables part rule b)
 
 abbrev μ-loop : tie.MeasureT-loop
 μ-loop variables part rule width total₀ b₀ total b = width - b
@@ -25,7 +26,7 @@ bit-by-requires c κs = c .before .before .before .pre .0
 with-bit-requires : tie.Need-with-bit-requires Inv-loop μ-loop
 with-bit-requires c κs =
     let a = c .before .before .before .before .args in
-    let most : c .before .before .loop .b ≤ 32 = omega arith in
+    let most : c .before .before .loop .b ≤ widest = omega arith in
     let small = number-lt (c .before .before .loop .b) (bitBy (now (a .variables)) (a .part) (a .rule)) in
     (most, omega (arith, small, c .before .before .loop .inv .2, pow-mono most))
 
