@@ -228,7 +228,9 @@ fn confirmed(
     long_enough(&description, record, marks)?;
     match in_hand(&description, operation)? {
         InHand::Nothing => Err(24),
-        InHand::Read(reading) => confirm_read(&description, reading, operation, number, calibration),
+        InHand::Read(reading) => {
+            confirm_read(&description, reading, operation, number, calibration)
+        }
         InHand::Write(writing) => {
             fits_units(&description.variables[writing.variable], calibration)?;
             Ok(confirm_write(
