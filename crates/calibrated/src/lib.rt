@@ -70,7 +70,7 @@ pub fn begin_read_in_units(
     parameters: &[u32],
     registers: &[u32],
     variables: &[u32],
-    held: &[u8],
+    held: &[u32],
     marks: &[u8],
     operation: Operation,
     v: usize,
@@ -186,7 +186,7 @@ fn refuse_units(
     parameters: &[u32],
     registers: &[u32],
     variables: &[u32],
-    held: &[u8],
+    held: &[u32],
     marks: &[u8],
     operation: Operation,
 ) -> OutcomeInUnits
@@ -251,17 +251,17 @@ pub fn confirm_in_units(
     parameters: &[u32],
     registers: &[u32],
     variables: &[u32],
-    held: &mut [u8],
+    held: &mut [u32],
     marks: &mut [u8],
     operation: Operation,
-    byte: u8,
+    number: u32,
     calibration: Calibration,
 ) -> OutcomeInUnits
     ensures { λ r. ⌜ MeetsInUnits
         (confirmInUnits sound
         (tablesOf (now (parameters .entry)) (now (registers .entry)) (now (variables .entry)))
         (lent (now (held .entry)) (now (marks .entry)) operation)
-        byte calibration)
+        number calibration)
         (now (held .exit)) (now (marks .exit)) r ⌝ }
 {
     let units = units_for(operation, variables, calibration);
@@ -275,7 +275,7 @@ pub fn confirm_in_units(
         held,
         marks,
         operation,
-        byte,
+        number,
     );
     told_for(units, operation, calibration, outcome)
 }

@@ -22,7 +22,7 @@ same-length-2 : tie.Need-same-length-2
 same-length-2 c = search needs
 
 returns : tie.Need-returns
-returns c = write-refused sound (tablesOf (now (c .before .before .before .before .before .before .before .before .before .before .before .args .parameters)) (now (c .before .before .before .before .before .before .before .before .before .before .before .args .registers)) (now (c .before .before .before .before .before .before .before .before .before .before .before .args .variables))) _ _ (c .before .before .before .before .before .before .before .before .before .before .before .args .byte) (c .before .before .before .before .before .before .before .before .before .before .before .args .calibration) (c .before .before .before .before .before .before .before .before .before .before .before .args .operation) (c .before .before .before .before .is-write .ensures) (c .before .before .before .before .before .units-for .ensures) (c .before .before .before .if1 .taken) (c .refuse-units .ensures)
+returns c = write-refused sound (tablesOf (now (c .before .before .before .before .before .before .before .before .before .before .before .args .parameters)) (now (c .before .before .before .before .before .before .before .before .before .before .before .args .registers)) (now (c .before .before .before .before .before .before .before .before .before .before .before .args .variables))) _ _ (c .before .before .before .before .before .before .before .before .before .before .before .args .number) (c .before .before .before .before .before .before .before .before .before .before .before .args .calibration) (c .before .before .before .before .before .before .before .before .before .before .before .args .operation) (c .before .before .before .before .is-write .ensures) (c .before .before .before .before .before .units-for .ensures) (c .before .before .before .if1 .taken) (c .refuse-units .ensures)
 
 confirm-requires : tie.Need-confirm-requires
 confirm-requires c κs = search needs
