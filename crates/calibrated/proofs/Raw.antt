@@ -45,23 +45,15 @@ module _ (sound : Tables → Bool) (t : Tables) (s : State) (c : Calibration) wh
 
 -- ── 54 ──
 
-isOver : InUnits → ℕ
-isOver (Read x accesses) = 0
-isOver (Over n) = 1
-isOver (Same answer) = 0
-
-numberOver : InUnits → ℕ
-numberOver (Read x accesses) = 0
-numberOver (Over n) = n
-numberOver (Same answer) = 0
+-- one more than the number with which a read is over, and 0 for every other answer
+overBy : InUnits → ℕ
+overBy (Read x accesses) = 0
+overBy (Over n) = suc n
+overBy (Same answer) = 0
 
 same-not-over : (answer : Answer) (n : ℕ) → Same answer ≡ Over n → ⊥
-unfolding isOver
-same-not-over answer n e = let k : _≡_ {A = ℕ} 0 1 = ap isOver e in omega arith
-
-read-not-over : {x : Float} {accesses : ℕ} (n : ℕ) → Read x accesses ≡ Over n → ⊥
-unfolding isOver
-read-not-over n e = let k : _≡_ {A = ℕ} 0 1 = ap isOver e in omega arith
+unfolding overBy
+same-not-over answer n e = let k : 0 ≡ suc n = ap overBy e in omega arith
 
 -- the read was done, there were units, and the conversion failed by this number
 record Failed (c : Calibration) (units : Bool) (answer : Answer) (n : ℕ) : Type 0 where
@@ -72,9 +64,9 @@ record Failed (c : Calibration) (units : Bool) (answer : Answer) (n : ℕ) : Typ
   not-converted : converted value c ≡ NotConverted n
 
 failed-by : (a : Converted) (accesses n : ℕ) → readAs a accesses ≡ Over n → a ≡ NotConverted n
-unfolding readAs numberOver
-failed-by (Value x) accesses n e = absurd (read-not-over n e)
-failed-by (NotConverted m) accesses n e = ap NotConverted (ap numberOver e)
+unfolding readAs overBy
+failed-by (Value x) accesses n e = let k : 0 ≡ suc n = ap overBy e in absurd (omega arith)
+failed-by (NotConverted m) accesses n e = let k : suc m ≡ suc n = ap overBy e in ap NotConverted (omega arith)
 
 over-when : (c : Calibration) (op : Operation) (answer : Answer) (variables : List ℕ) (n : ℕ) (b : Bool) (left : State) (s : State) → (isRefused answer || unitsFor op variables c) ≡ b
     → cond {A = Told} b (record { answer = answerFor op c answer; state = left }) (record { answer = Same (Refused 53); state = s }) .answer ≡ Over n

@@ -1,6 +1,7 @@
 -- A loop that spells sixteen digits from the last on: its start, a turn, its end. Assumes nothing.
-use Prim.Native.Nat.{ℕ, zero, suc, _≤_, _/_, _%_}
+use Prim.Native.Nat.{ℕ, zero, suc, _≤_, _<_, _+_, _/_, _%_}
 use native.Mathlib.Omega.{arith}
+use borrow.Author.Tests.{lt-ltb, le-ltb}
 use mathlib.Core.Path.{_≡_, _∙_, sym, ap}
 use mathlib.Core.List.{List, _∷_}
 use lib.ListN.{length, set, drop, length-set, drop-of-length-le}
@@ -36,3 +37,13 @@ pub all-spelled : (bits : ℕ) (digits : List ℕ) (rest i : ℕ) → i ≤ 0 �
 unfolding digitsBefore
 all-spelled bits digits rest zero none s = sym (s .to-come)
 all-spelled bits digits rest (suc i) none s = absurd (omega arith)
+
+-- ── one digit ──
+
+pub low-figure : (digit : ℕ) → digit < 10 → 48 + digit ≡ figureOf digit
+unfolding figureOf
+low-figure digit low = rw (lt-ltb digit 10 low)
+
+pub high-figure : (digit : ℕ) → 10 ≤ digit → 55 + digit ≡ figureOf digit
+unfolding figureOf
+high-figure digit high = rw (le-ltb digit 10 high)

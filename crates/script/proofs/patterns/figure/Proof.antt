@@ -1,5 +1,4 @@
-use borrow.Author.Tests.{lt-ltb, le-ltb}
-use Rattle.script.specs.Patterns.{figureOf}
+use Rattle.script.proofs.PatternLaws.{low-figure, high-figure}
 use borrow.Author.Needs.{needs}
 use Rattle.script.proofs.patterns.figure.Statement.{statement}
 use Rattle.script.proofs.patterns.figure.Tie as tie
@@ -17,12 +16,10 @@ cast-result-2 : tie.Need-cast-result-2
 cast-result-2 c = search needs
 
 returns : tie.Need-returns
-unfolding figureOf
-returns c = rw (lt-ltb _ _ (c .if1 .taken), figureOf)
+returns c = low-figure _ (c .if1 .taken)
 
 returns-2 : tie.Need-returns-2
-unfolding figureOf
-returns-2 c = rw (le-ltb _ _ (c .if1 .left), figureOf)
+returns-2 c = high-figure _ (c .if1 .left)
 
 pub figure-spec : {M : Type 1} → statement M
 figure-spec =
