@@ -138,7 +138,7 @@ mod tests {
         let line = format!("{:016X}", 4_294_967_297f64.to_bits());
         for behind in 0..RECORD_BYTES {
             let input = [&bytes[..], &bytes[..behind]].concat();
-            assert_eq!(readings(&input), [line.clone()]);
+            assert_eq!(readings(&input), [line.as_str()]);
             assert!(readings(&bytes[..behind]).is_empty());
         }
     }

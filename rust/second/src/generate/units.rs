@@ -81,7 +81,7 @@ fn huge(random: &mut Random) -> u64 {
     sign(random) | (GREATEST - (random.number() >> 10))
 }
 
-/// A finite double: a corner or near it, a short decimal, of a modest size, or any.
+/// A finite double: a corner, a short decimal, of a modest size, or any.
 fn double(random: &mut Random) -> u64 {
     let pattern = match random.below(6) {
         0 => *random.pick(&CORNERS),
@@ -89,7 +89,7 @@ fn double(random: &mut Random) -> u64 {
         2..=4 => modest(random),
         _ => random.number() % INFINITE,
     };
-    sign(random) | pattern & !SIGN
+    sign(random) | pattern
 }
 
 /// From a thousandth to a thousand, or so.
