@@ -24,6 +24,7 @@
 
 #include <stddef.h>
 #include <stdint.h>
+#include <string.h>
 
 #ifdef __cplusplus
 extern "C" {
@@ -135,9 +136,15 @@ extern "C" {
 
 /*
  * Word 0 of a refusal that ended the read in hand; then its number, the index of the register that
- * is to blame, 0, 0.
+ * is to blame (0 where none is: 54), 0, 0.
  */
 #define DESFANUK_STOPPED 5
+
+/*
+ * Word 0 of a read in units that is done; then the high and the low half (32 bits each) of the
+ * 64 bits of a double (desfanuk_reading_of), the number of its accesses, and 0.
+ */
+#define DESFANUK_DONE_IN_UNITS 6
 
 /* The directions of an access. */
 #define DESFANUK_READ 0
@@ -201,6 +208,10 @@ extern "C" {
 #define DESFANUK_REFUSED_HALF_WRITTEN 28
 /* The number read differs from a fixed bit of its register's read mask. The read is over. */
 #define DESFANUK_REFUSED_CONTRADICTED 52
+/* Gain or offset is not finite, or the variable is a `bool`. */
+#define DESFANUK_REFUSED_NO_UNITS 53
+/* The product or the sum is not finite; given in place of done. The read is over. */
+#define DESFANUK_REFUSED_NOT_FINITE 54
 /* The value is above the greatest of the variable's type: DESFANUK_GREATEST. */
 #define DESFANUK_REFUSED_TOO_HIGH 55
 
@@ -332,6 +343,54 @@ uint64_t desfanuk_abandon(const uint32_t *parameters, size_t parameters_len,
                           uint8_t *marks, size_t marks_len,
                           uint64_t *operation, size_t operation_len,
                           int64_t *answer, size_t answer_len);
+
+/*
+ * Readings in units: the reading, taken exactly, times the gain, rounded once, plus the offset,
+ * rounded once. Gain and offset cross as the 64 bits of doubles, at the begin and again at each
+ * confirmation: desfanuk_bits_of(0.5). The operation in hand is an ordinary read; to abandon it is
+ * desfanuk_abandon.
+ */
+
+/* The 64 bits of a double. */
+static inline uint64_t desfanuk_bits_of(double x)
+{
+    uint64_t bits;
+    memcpy(&bits, &x, sizeof bits);
+    return bits;
+}
+
+/* The double that an answer DESFANUK_DONE_IN_UNITS tells. */
+static inline double desfanuk_reading_of(const int64_t *answer)
+{
+    uint64_t bits = (uint64_t)answer[1] << 32 | (uint64_t)answer[2];
+    double x;
+    memcpy(&x, &bits, sizeof x);
+    return x;
+}
+
+/* Begins a read in units, as desfanuk_begin_read does, or refuses by 53 before any access. */
+uint64_t desfanuk_begin_read_in_units(const uint32_t *parameters, size_t parameters_len,
+                                      const uint32_t *registers, size_t registers_len,
+                                      const uint32_t *variables, size_t variables_len,
+                                      const uint32_t *held, size_t held_len,
+                                      const uint8_t *marks, size_t marks_len,
+                                      uint64_t *operation, size_t operation_len,
+                                      size_t variable, uint64_t gain, uint64_t offset,
+                                      int64_t *answer, size_t answer_len);
+
+/*
+ * Confirms an access, as desfanuk_confirm does, but a read that is done gives its reading in units
+ * (DESFANUK_DONE_IN_UNITS), or is refused by 54, which ends it all the same (DESFANUK_STOPPED). A
+ * calibration that a begin would refuse is refused by 53 here too, and changes nothing.
+ */
+uint64_t desfanuk_confirm_in_units(const uint32_t *parameters, size_t parameters_len,
+                                   const uint32_t *registers, size_t registers_len,
+                                   const uint32_t *variables, size_t variables_len,
+                                   uint32_t *held, size_t held_len,
+                                   uint8_t *marks, size_t marks_len,
+                                   uint64_t *operation, size_t operation_len,
+                                   uint32_t number, uint64_t gain, uint64_t offset,
+                                   int64_t *answer, size_t answer_len);
 
 #ifdef __cplusplus
 }

@@ -4,3 +4,4 @@ pub mod Telling
 pub mod Meaning
 pub mod LoadingLaws
 pub mod ArrivingLaws
+pub mod UnitLaws

@@ -27,11 +27,11 @@ use Rattle.abi.specs.Told.{Small}
 use Rattle.logic.proofs.Tests.{both}
 
 -- the refusals of these tests do
-abbrev smallNumbers : List Test → Bool
+abbrev pub smallNumbers : List Test → Bool
 smallNumbers [] = true
 smallNumbers (test ∷ tests) = ltb (test .1) (2 ^ 32) && smallNumbers tests
 
-unless-small : (tests : List Test) (s : State) (o : Outcome) → smallNumbers tests ≡ true → (NoneHolds tests → Small (o .answer)) → Small (unless tests s o .answer)
+pub unless-small : (tests : List Test) (s : State) (o : Outcome) → smallNumbers tests ≡ true → (NoneHolds tests → Small (o .answer)) → Small (unless tests s o .answer)
 unfolding unless
 unless-small [] s o numbers passed = passed tt
 unless-small (test ∷ tests) s o numbers passed =
@@ -43,7 +43,7 @@ unless-small (test ∷ tests) s o numbers passed =
     go false e small rest = rest e
 
 module _ (t : Tables) (narrow : (i : ℕ) → Fits w32 (getD (t .registers) i 0)) where
-  offer-small : (part : Part) (r : ℕ) → (parameterOf t part r < 2 ^ 32) × (offsetOf t part r < 2 ^ 32)
+  pub offer-small : (part : Part) (r : ℕ) → (parameterOf t part r < 2 ^ 32) × (offsetOf t part r < 2 ^ 32)
   unfolding parameterOf offsetOf
   offer-small part r = (narrow _ .fits, narrow _ .fits)
 

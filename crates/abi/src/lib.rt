@@ -14,6 +14,9 @@ ghost use Rattle.station.specs.Calls.{opening, beginRead, beginWrite, confirm, 
 ghost use Rattle.station.specs.Promise.{lent};
 ghost use Rattle.abi.specs.Words.{operationOf};
 ghost use Rattle.abi.specs.Told.{Tells};
+ghost use Rattle.units.specs.Lines.{calibrationOf};
+ghost use Rattle.calibrated.specs.Readings.{beginInUnits, confirmInUnits};
+ghost use Rattle.abi.specs.InUnits.{TellsIn};
 ghost use Rattle.rules.specs.Names.{variableNamed};
 ghost use Rattle.loader.specs.Load.{lentAs, loadOf};
 ghost use Rattle.abi.specs.Loading.{TellsLoaded, foundWord};
@@ -21,6 +24,7 @@ ghost use Rattle.pieces.specs.Pieces.{heldAs, pieceOf, endOf};
 ghost use Rattle.abi.specs.Arriving.{takenOf, TellsTook, TellsClosed};
 
 pub mod arriving;
+pub mod in_units;
 pub mod loading;
 pub mod words;
 
@@ -263,4 +267,78 @@ pub extern "C" fn desfanuk_abandon(
     let in_hand = words::operation_of(operation);
     let outcome = station::abandon(parameters, registers, variables, held, marks, in_hand);
     words::tell(outcome, operation, answer)
+}
+
+// ---- readings in units: gain and offset are the 64 bits of two doubles
+
+#[no_mangle]
+pub extern "C" fn desfanuk_begin_read_in_units(
+    parameters: &[u32],
+    registers: &[u32],
+    variables: &[u32],
+    held: &[u32],
+    marks: &[u8],
+    operation: &mut [u64],
+    variable: usize,
+    gain: u64,
+    offset: u64,
+    answer: &mut [i64],
+) -> u64
+    ensures { λ r. ⌜ Tells
+        (beginInUnits sound
+        (tablesOf (now (parameters .entry)) (now (registers .entry)) (now (variables .entry)))
+        (lent (now (held .entry)) (now (marks .entry)) (operationOf (now (operation .entry))))
+        variable (calibrationOf gain offset))
+        (now (operation .entry)) (now (answer .entry))
+        (now (held .entry)) (now (marks .entry)) (now (operation .exit)) (now (answer .exit)) r ⌝ }
+{
+    let in_hand = words::operation_of(operation);
+    let calibration = units::calibration_of(gain, offset);
+    let outcome = calibrated::begin_read_in_units(
+        parameters,
+        registers,
+        variables,
+        held,
+        marks,
+        in_hand,
+        variable,
+        calibration,
+    );
+    words::tell(outcome, operation, answer)
+}
+
+#[no_mangle]
+pub extern "C" fn desfanuk_confirm_in_units(
+    parameters: &[u32],
+    registers: &[u32],
+    variables: &[u32],
+    held: &mut [u32],
+    marks: &mut [u8],
+    operation: &mut [u64],
+    number: u32,
+    gain: u64,
+    offset: u64,
+    answer: &mut [i64],
+) -> u64
+    ensures { λ r. ⌜ TellsIn
+        (confirmInUnits sound
+        (tablesOf (now (parameters .entry)) (now (registers .entry)) (now (variables .entry)))
+        (lent (now (held .entry)) (now (marks .entry)) (operationOf (now (operation .entry))))
+        number (calibrationOf gain offset))
+        (now (operation .entry)) (now (answer .entry))
+        (now (held .exit)) (now (marks .exit)) (now (operation .exit)) (now (answer .exit)) r ⌝ }
+{
+    let in_hand = words::operation_of(operation);
+    let calibration = units::calibration_of(gain, offset);
+    let outcome = calibrated::confirm_in_units(
+        parameters,
+        registers,
+        variables,
+        held,
+        marks,
+        in_hand,
+        number,
+        calibration,
+    );
+    in_units::tell_units(outcome, operation, answer)
 }

@@ -89,7 +89,7 @@ pub fn put_four(words: &mut [u64], kind: u64, first: usize, second: usize, third
     put(words, 3, third as u64);
 }
 
-fn tell_operation(operation: Operation, words: &mut [u64])
+pub fn tell_operation(operation: Operation, words: &mut [u64])
     ensures { λ _. ⌜ now (words .exit) ≡ written (operationWords operation) (now (words .entry)) ⌝ }
 {
     match operation {
@@ -117,7 +117,7 @@ fn put_signed(words: &mut [i64], at: usize, word: i64)
     }
 }
 
-fn put_answer(words: &mut [i64], kind: i64, first: i64, second: i64, third: i64, fourth: i64)
+pub fn put_answer(words: &mut [i64], kind: i64, first: i64, second: i64, third: i64, fourth: i64)
     ensures { λ _. ⌜ now (words .exit) ≡ written (kind ∷ first ∷ second ∷ third ∷ fourth ∷ []) (now (words .entry)) ⌝ }
 {
     put_signed(words, 0, kind);
@@ -156,7 +156,7 @@ fn tell_offer(access: Access, words: &mut [i64])
     put_answer(words, 2, direction, parameter, offset, byte);
 }
 
-fn tell_answer(answer: Answer, words: &mut [i64])
+pub fn tell_answer(answer: Answer, words: &mut [i64])
     requires { ⌜ Small answer ⌝ }
     ensures { λ _. ⌜ now (words .exit) ≡ written (answerWords answer) (now (words .entry)) ⌝ }
 {
@@ -172,7 +172,7 @@ fn tell_answer(answer: Answer, words: &mut [i64])
     }
 }
 
-fn refusal_number(answer: Answer) -> usize
+pub fn refusal_number(answer: Answer) -> usize
     ensures { λ r. ⌜ r ≡ refusalNumber answer ⌝ }
 {
     match answer {
@@ -192,7 +192,7 @@ fn refusal_number(answer: Answer) -> usize
 }
 
 // Does the answer leave the operation's words as they were?
-fn is_left(answer: Answer) -> bool
+pub fn is_left(answer: Answer) -> bool
     ensures { λ r. ⌜ r ≡ isLeft answer ⌝ }
 {
     match answer {

@@ -7,12 +7,14 @@ use Rattle.token.specs.Bytes.{bytes, same, runFrom, begins, within}
 use Rattle.token.specs.Number.{digitOf, isDigit}
 use Rattle.script.specs.Words.{testOf, wordOf, restOf, ahead, wordsUpTo, wordsOf}
 use Rattle.script.specs.Numbers.{figuresFrom, figures, numberOf, natural, negated, valueOf}
+use Rattle.script.specs.Patterns.{patternOf}
+use Rattle.units.specs.Lines.{calibrationOf}
 use Rattle.station.specs.declared.Operation.the-variants.{Reading}
-use Rattle.replay.specs.declared.call.Request.the-variants.{Open, Write}
+use Rattle.replay.specs.declared.call.Request.the-variants.{Open, Write, Calibrated}
 use Rattle.replay.specs.declared.call.Call.{Call}
 use Rattle.replay.specs.declared.call.Call.the-variants.{Nothing, Station, Lookup, LendMarks, Hold, Unknown}
 use Rattle.replay.specs.Fields.{isNone, onlyWord, belowOf, isSome, countFrom}
-use Rattle.replay.specs.Calls.{chosen, bareOf, withNumber, lookupOf, writing, writeOf, isAll, amountOf, lent, lendOf, inHand, held, heldOf, holding, holdOf, callBy, isSkipped, callOf}
+use Rattle.replay.specs.Calls.{chosen, bareOf, withNumber, lookupOf, writing, writeOf, calibrating, calibratedOf, isAll, amountOf, lent, lendOf, inHand, held, heldOf, holding, holdOf, callBy, isSkipped, callOf}
 
 abbrev asked : List ℕ → Call
 asked line = callOf (wordsOf line)
@@ -27,6 +29,8 @@ pub lines :
     ∷ bytes "; a comment"
     ∷ bytes "read 0 0"
     ∷ bytes "confirm 4294967296"
+    ∷ bytes "calibrated 2 3FE0000000000000 4090000000000000"
+    ∷ bytes "calibrated 2 3FE000000000000 4090000000000000"
     ∷ [])
     ≡ Station (Open 2)
     ∷ Station (Write 0 (negsuc 1))
@@ -36,6 +40,8 @@ pub lines :
     ∷ Nothing
     ∷ Unknown
     ∷ Unknown
+    ∷ Station (Calibrated 2 (calibrationOf 0x3FE0000000000000 0x4090000000000000))
+    ∷ Unknown
     ∷ []
-unfolding same runFrom begins within digitOf isDigit testOf wordOf restOf ahead wordsUpTo wordsOf figuresFrom figures numberOf natural negated valueOf isNone onlyWord belowOf isSome countFrom chosen bareOf withNumber lookupOf writing writeOf isAll amountOf lent lendOf inHand held heldOf holding holdOf callBy isSkipped callOf
+unfolding same runFrom begins within digitOf isDigit testOf wordOf restOf ahead wordsUpTo wordsOf figuresFrom figures numberOf natural negated valueOf isNone onlyWord belowOf isSome countFrom chosen bareOf withNumber lookupOf writing writeOf calibrating calibratedOf patternOf isAll amountOf lent lendOf inHand held heldOf holding holdOf callBy isSkipped callOf
 lines = refl

@@ -10,6 +10,7 @@ use lib.ListN.{length, getD}
 use Rattle.token.specs.Bytes.{bytes, same}
 use Rattle.script.specs.Words.{wordOf, restOf, ahead, wordsOf}
 use Rattle.script.specs.Numbers.{numberOf, valueOf}
+use Rattle.script.specs.Patterns.{patternOf}
 use Rattle.script.specs.declared.numbers.Number.{Number}
 use Rattle.script.specs.declared.numbers.Number.the-variants as number
 use Rattle.script.specs.declared.numbers.Value.{Value}
@@ -17,7 +18,7 @@ use Rattle.replay.specs.declared.call.Request.{Request}
 use Rattle.replay.specs.declared.call.Call.{Call}
 use Rattle.replay.specs.declared.call.Call.the-variants.{Nothing, Station, Lookup, Unknown}
 use Rattle.replay.specs.Fields.{isNone, onlyWord, belowOf, orZero}
-use Rattle.replay.specs.Calls.{chosen, bareOf, withNumber, lookupOf, writing, writeOf, isAll, amountOf, lent, lendOf, held, heldOf, holding, holdOf, callBy, isSkipped, callOf}
+use Rattle.replay.specs.Calls.{chosen, bareOf, withNumber, lookupOf, writing, writeOf, calibrating, calibratedOf, isAll, amountOf, lent, lendOf, held, heldOf, holding, holdOf, callBy, isSkipped, callOf}
 use Rattle.replay.proofs.FieldLaws.{no-number, split}
 
 -- the first test that holds decides
@@ -87,6 +88,18 @@ held-first reading [] next pattern more e = rw no-number
 held-first reading (x ∷ word) [] pattern more e = ap (λ (step : Number). held reading (numberOf (x ∷ word)) step pattern) no-number ∙ held-no-step reading (numberOf (x ∷ word)) pattern
 held-first reading (x ∷ word) (y ∷ next) pattern more e = rw e
 
+no-gain : (v offset : Number) → calibrating v number.Nothing offset ≡ Unknown
+unfolding calibrating
+no-gain (number.Is v) offset = refl
+no-gain number.Nothing offset = refl
+
+calibrated-first : (word next : List ℕ) (offset : Number) (more : List (List ℕ)) → offset ≡ patternOf (onlyWord more)
+    → calibrating (numberOf word) (patternOf next) offset ≡ calibratedOf (ahead word (ahead next more))
+unfolding ahead calibrating calibratedOf patternOf
+calibrated-first [] next offset more e = rw no-number
+calibrated-first (x ∷ word) [] offset more e = no-gain (numberOf (x ∷ word)) offset
+calibrated-first (x ∷ word) (y ∷ next) offset more e = rw e
+
 called-first :
     (verb : List ℕ) (words : List (List ℕ)) → callOf (ahead verb words) ≡ cond (isSkipped verb) Nothing (callBy verb words)
 unfolding ahead callOf isSkipped
@@ -130,6 +143,15 @@ module _ (line first tail : List ℕ) (is-first : first ≡ wordOf line) (is-res
       ∙ held-first reading first next pattern (wordsOf more) is-pattern
       ∙ ap (λ (words : List (List ℕ)). heldOf reading (ahead first words)) (sym (split tail next is-next more is-more))
       ∙ ap (heldOf reading) (sym whole)
+
+  pub calibrated-so : (next more : List ℕ) → next ≡ wordOf tail → more ≡ restOf tail
+      → (v gain offset : Number) → v ≡ numberOf first → gain ≡ patternOf next → offset ≡ patternOf (onlyWord (wordsOf more))
+      → calibrating v gain offset ≡ calibratedOf (wordsOf line)
+  calibrated-so next more is-next is-more v gain offset is-v is-gain is-offset =
+      rw (is-v, is-gain)
+      (calibrated-first first next offset (wordsOf more) is-offset
+      ∙ ap (λ (words : List (List ℕ)). calibratedOf (ahead first words)) (sym (split tail next is-next more is-more))
+      ∙ ap calibratedOf (sym whole))
 
   -- the line as a whole
   pub called-so : (call : Call) → isSkipped first ≡ false → call ≡ callBy first (wordsOf tail) → call ≡ callOf (wordsOf line)

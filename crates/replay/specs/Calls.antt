@@ -6,14 +6,16 @@ use Prim.Native.Char.{code}
 use lib.Dec.{eqb}
 use Rattle.token.specs.Bytes.{bytes, same}
 use Rattle.script.specs.Numbers.{numberOf, valueOf}
+use Rattle.script.specs.Patterns.{patternOf}
 use Rattle.script.specs.declared.numbers.Number.{Number}
 use Rattle.script.specs.declared.numbers.Number.the-variants as number
 use Rattle.script.specs.declared.numbers.Value.{Value}
 use Rattle.script.specs.declared.numbers.Value.the-variants as value
+use Rattle.units.specs.Lines.{calibrationOf}
 use Rattle.station.specs.declared.Operation.{Operation}
 use Rattle.station.specs.declared.Operation.the-variants.{Idle, Reading, Writing}
 use Rattle.replay.specs.declared.call.Request.{Request}
-use Rattle.replay.specs.declared.call.Request.the-variants.{Open, Read, Write, Confirm, Abandon}
+use Rattle.replay.specs.declared.call.Request.the-variants.{Open, Read, Write, Confirm, Abandon, Calibrated}
 use Rattle.replay.specs.declared.call.Call.{Call}
 use Rattle.replay.specs.declared.call.Call.the-variants.{Nothing, Station, Lookup, State, LendRecord, LendMarks, Hold, Unknown}
 use Rattle.replay.specs.Fields.{isNone, onlyWord, belowOf, carriedOf, countFrom}
@@ -46,6 +48,18 @@ writing number.Nothing z = Unknown
 unfoldable pub writeOf : List (List ℕ) → Call
 writeOf [] = Unknown
 writeOf (v ∷ words) = writing (numberOf v) (valueOf (onlyWord words))
+
+-- `calibrated V GAIN OFFSET`, gain and offset as sixteen hexadecimal digits
+unfoldable pub calibrating : Number → Number → Number → Call
+calibrating (number.Is v) (number.Is gain) (number.Is offset) = Station (Calibrated v (calibrationOf gain offset))
+calibrating (number.Is v) (number.Is gain) number.Nothing = Unknown
+calibrating (number.Is v) number.Nothing offset = Unknown
+calibrating number.Nothing gain offset = Unknown
+
+unfoldable pub calibratedOf : List (List ℕ) → Call
+calibratedOf [] = Unknown
+calibratedOf (v ∷ []) = Unknown
+calibratedOf (v ∷ gain ∷ words) = calibrating (numberOf v) (patternOf gain) (patternOf (onlyWord words))
 
 -- `lend record K`, `lend marks K`; all of it is 2 ^ 64 - 1 bytes, more than there are
 unfoldable pub isAll : List (List ℕ) → Bool
@@ -99,6 +113,7 @@ operations verb words =
     ∷ (same verb (bytes "write"), writeOf words)
     ∷ (same verb (bytes "confirm"), withNumber (carriedOf (onlyWord words)) Confirm)
     ∷ (same verb (bytes "abandon"), bareOf words (Station Abandon))
+    ∷ (same verb (bytes "calibrated"), calibratedOf words)
     ∷ []
 
 unfoldable pub callBy : List ℕ → List (List ℕ) → Call

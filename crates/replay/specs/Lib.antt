@@ -1,3 +1,4 @@
 pub mod Fields
 pub mod Calls
+pub mod Scales
 pub mod Sessions

@@ -9,14 +9,17 @@ use script::Number;
 use script::Value;
 use script::is;
 use script::number_of;
+use script::pattern_of;
 use script::rest;
 use script::value_of;
 use script::word;
 use station::Operation;
+use units::Calibration;
+use units::calibration_of;
 ghost use mathlib.Core.Path.{_≡_};
 ghost use Prim.Native.Nat.{ℕ};
 ghost use Rattle.script.specs.Words.{wordsOf};
-ghost use Rattle.replay.specs.Calls.{bareOf, withNumber, lookupOf, writing, writeOf, operations, amountOf, lent, lendOf, inHand, held, heldOf, holding, holdOf, chosen, callBy, isSkipped, callOf};
+ghost use Rattle.replay.specs.Calls.{bareOf, withNumber, lookupOf, writing, writeOf, calibrating, calibratedOf, operations, amountOf, lent, lendOf, inHand, held, heldOf, holding, holdOf, chosen, callBy, isSkipped, callOf};
 
 // A call of the station. An opening has so many power-on numbers.
 pub enum Request {
@@ -25,6 +28,8 @@ pub enum Request {
     Write(usize, i64),
     Confirm(u32),
     Abandon,
+    // A read in units.
+    Calibrated(usize, Calibration),
 }
 
 pub enum Call {
@@ -87,6 +92,32 @@ fn write_of(tail: &[u8]) -> Call
     write(variable, value)
 }
 
+fn calibrate(variable: Number, gain: Number, offset: Number) -> Call
+    ensures { λ r. ⌜ r ≡ calibrating variable gain offset ⌝ }
+{
+    let Number::Is(v) = variable else {
+        return Call::Unknown;
+    };
+    let Number::Is(g) = gain else {
+        return Call::Unknown;
+    };
+    let Number::Is(o) = offset else {
+        return Call::Unknown;
+    };
+    let calibration = calibration_of(g, o);
+    Call::Station(Request::Calibrated(v as usize, calibration))
+}
+
+fn calibrated_of(tail: &[u8]) -> Call
+    ensures { λ r. ⌜ r ≡ calibratedOf (wordsOf (now (tail .entry))) ⌝ }
+{
+    let variable = number_of(word(tail));
+    let patterns = rest(tail);
+    let gain = pattern_of(word(patterns));
+    let offset = pattern_of(only_word(rest(patterns)));
+    calibrate(variable, gain, offset)
+}
+
 // The calls that begin, go on with or end an operation.
 fn operation_of(verb: &[u8], tail: &[u8]) -> Call
     ensures { λ r. ⌜ r ≡ chosen (operations (now (verb .entry)) (wordsOf (now (tail .entry)))) ⌝ }
@@ -105,6 +136,9 @@ fn operation_of(verb: &[u8], tail: &[u8]) -> Call
     }
     if is(verb, b"abandon") {
         return bare(tail, Call::Station(Request::Abandon));
+    }
+    if is(verb, b"calibrated") {
+        return calibrated_of(tail);
     }
     Call::Unknown
 }

@@ -3,6 +3,7 @@ use crate::session::ALL;
 use crate::session::Reply;
 use crate::session::Session;
 use crate::session::lent;
+use calibrated::InUnits;
 use rules::Found;
 use station::Access;
 use station::Answer;
@@ -113,6 +114,23 @@ fn answer(given: Answer, parameters: &[u32]) {
     say(b"\n");
 }
 
+fn told(given: InUnits, parameters: &[u32]) {
+    match given {
+        InUnits::Reading { value, accesses } => {
+            let digits = script::digits_of(units::bits_of(value));
+            say(b"done ");
+            say(&digits);
+            number_after(b" ", accesses);
+            say(b"\n");
+        }
+        InUnits::Stopped(number) => {
+            number_after(b"refused ", number);
+            say(b"\n");
+        }
+        InUnits::Same(same) => answer(same, parameters),
+    }
+}
+
 fn looked(found: Found) {
     match found {
         Found::At(v) => number_after(b"variable ", v),
@@ -188,7 +206,7 @@ pub fn reply(
 ) {
     match given {
         Reply::Silence => say(b""),
-        Reply::Answered(answered) => answer(answered, parameters),
+        Reply::Answered(answered) => told(answered, parameters),
         Reply::Looked(found) => looked(found),
         Reply::Stand => state(registers, variables, kept, marks, session),
         Reply::Lent => say(b"lent\n"),

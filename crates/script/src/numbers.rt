@@ -35,7 +35,7 @@ fn digit(b: u8) -> u64
 }
 
 // The number that some digits are, unless one of them is none or the number does not fit.
-fn digits(word: &[u8], radix: u64) -> Number
+pub fn digits(word: &[u8], radix: u64) -> Number
     requires { ⌜ (1 ≤ radix) × (radix ≤ 16) ⌝ }
     ensures { λ r. ⌜ r ≡ figures radix (now (word .entry)) ⌝ }
 {

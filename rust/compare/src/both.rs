@@ -4,7 +4,7 @@
 use desfanuk::raw;
 use second::generate::{Random, TableSet};
 use second::replay::Call;
-use second::{Answer, Operation, Tables};
+use second::{Answer, Calibration, Operation, Tables};
 
 use crate::proved::{self, ANSWER_WORDS, OPERATION_WORDS};
 
@@ -26,6 +26,8 @@ pub struct Both {
     record: Vec<u32>,
     marks: Vec<u8>,
     operation: Operation,
+    /// That of the read in hand, if it was begun in units.
+    calibration: Option<Calibration>,
     proved_record: Vec<u32>,
     proved_marks: Vec<u8>,
     proved_operation: Vec<u64>,
@@ -50,6 +52,7 @@ impl Both {
             record,
             marks,
             operation: Operation::Idle,
+            calibration: None,
             proved_operation,
         }
     }
@@ -72,35 +75,51 @@ impl Both {
             }
             Call::Hold(operation) => {
                 self.operation = *operation;
+                self.calibration = None;
                 self.proved_operation[..OPERATION_WORDS]
                     .copy_from_slice(&proved::operation_words(*operation));
                 None
             }
             Call::Lookup(_) | Call::State => None,
-            _ => Some(self.station_call(call)),
+            Call::Confirm(number) => Some(match self.calibration {
+                None => self.station_call(call, None),
+                Some(calibration) => self.confirm_in_units(*number, calibration),
+            }),
+            _ => Some(self.station_call(call, None)),
         }
     }
 
-    fn station_call(&mut self, call: &Call) -> Answer {
+    /// Confirms in units, with any calibration, whatever is in hand.
+    pub fn confirm_in_units(&mut self, number: u32, calibration: Calibration) -> Answer {
+        self.station_call(&Call::Confirm(number), Some(calibration))
+    }
+
+    /// Makes a call in both; a confirmation in units where a calibration is lent with it.
+    fn station_call(&mut self, call: &Call, lent: Option<Calibration>) -> Answer {
         let (record, marks) = (self.record.clone(), self.marks.clone());
         let words = self.proved_operation.clone();
-        let want = self.second_call(call);
-        let got = self.proved_call(call);
+        let want = self.second_call(call, lent);
+        let got = self.proved_call(call, lent);
         assert_eq!(got, want, "{call}");
         assert_eq!(self.proved_record, self.record, "record after {call}");
         assert_eq!(self.proved_marks, self.marks, "marks after {call}");
         let mut left = words.clone();
-        if let Answer::Refused(_) | Answer::Contradicted { .. } = want {
+        if let Answer::Refused(_) | Answer::Contradicted { .. } | Answer::NotFinite = want {
             assert_eq!((&self.record, &self.marks), (&record, &marks), "{call}");
         }
         if !matches!(want, Answer::Refused(_)) {
             left[..OPERATION_WORDS].copy_from_slice(&proved::operation_words(self.operation));
         }
         assert_eq!(self.proved_operation, left, "operation after {call}");
+        match (call, want) {
+            (Call::Calibrated(_, begun), Answer::Offer(_)) => self.calibration = Some(*begun),
+            _ if self.operation == Operation::Idle => self.calibration = None,
+            _ => {}
+        }
         want
     }
 
-    fn second_call(&mut self, call: &Call) -> Answer {
+    fn second_call(&mut self, call: &Call, lent_units: Option<Calibration>) -> Answer {
         let tables = lent(&self.tables);
         let record = &mut self.record[..self.lent_record];
         let marks = &mut self.marks[..self.lent_marks];
@@ -111,12 +130,25 @@ impl Both {
             Call::Write(v, value) => {
                 second::begin_write(tables, record, marks, operation, *v, *value)
             }
-            Call::Confirm(number) => second::confirm(tables, record, marks, operation, *number),
+            Call::Calibrated(v, calibration) => {
+                second::begin_calibrated(tables, record, marks, operation, *v, *calibration)
+            }
+            Call::Confirm(number) => match lent_units {
+                None => second::confirm(tables, record, marks, operation, *number),
+                Some(calibration) => second::confirm_calibrated(
+                    tables,
+                    record,
+                    marks,
+                    operation,
+                    *number,
+                    calibration,
+                ),
+            },
             _ => second::abandon(tables, record, marks, operation),
         }
     }
 
-    fn proved_call(&mut self, call: &Call) -> Answer {
+    fn proved_call(&mut self, call: &Call, lent_units: Option<Calibration>) -> Answer {
         let tables = proved::words(lent(&self.tables));
         let record = &mut self.proved_record[..self.lent_record];
         let marks = &mut self.proved_marks[..self.lent_marks];
@@ -128,9 +160,15 @@ impl Both {
             Call::Write(v, value) => {
                 raw::begin_write(tables, record, marks, operation, *v, *value, &mut words)
             }
-            Call::Confirm(number) => {
-                raw::confirm(tables, record, marks, operation, *number, &mut words)
-            }
+            Call::Calibrated(v, Calibration { gain, offset }) => raw::begin_read_in_units(
+                tables, record, marks, operation, *v, *gain, *offset, &mut words,
+            ),
+            Call::Confirm(number) => match lent_units {
+                None => raw::confirm(tables, record, marks, operation, *number, &mut words),
+                Some(Calibration { gain, offset }) => raw::confirm_in_units(
+                    tables, record, marks, operation, *number, gain, offset, &mut words,
+                ),
+            },
             _ => raw::abandon(tables, record, marks, operation, &mut words),
         };
         let (answer, guard) = words.split_at(ANSWER_WORDS);
@@ -139,6 +177,7 @@ impl Both {
         let refusal = match answer {
             Answer::Refused(number) => u64::from(number),
             Answer::Contradicted { .. } => 52,
+            Answer::NotFinite => 54,
             _ => 0,
         };
         assert_eq!(number, refusal, "the number returned by {call}");

@@ -120,6 +120,14 @@ pub fn answer_of(words: &[i64; ANSWER_WORDS]) -> Answer {
         [5, 52, register, 0, 0] => Answer::Contradicted {
             register: number(register),
         },
+        [5, 54, 0, 0, 0] => Answer::NotFinite,
+        [6, high, low, accesses, 0] => {
+            let half = |word: i64| u64::from(u32::try_from(word).expect("half of a double"));
+            Answer::Measured {
+                bits: half(high) << 32 | half(low),
+                accesses: number(accesses),
+            }
+        }
         _ => panic!("no answer: {words:?}"),
     }
 }

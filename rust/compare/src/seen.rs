@@ -18,6 +18,8 @@ impl Seen {
         match answer {
             Answer::Refused(number) => self.note(format!("refused {number:02}")),
             Answer::Contradicted { .. } => self.note("refused 52"),
+            Answer::NotFinite => self.note("refused 54"),
+            Answer::Measured { .. } => self.note("measured"),
             Answer::Opened => self.note("opened"),
             Answer::Offer(_) => self.note("offer"),
             Answer::Done { .. } => self.note("done"),

@@ -40,7 +40,7 @@
 //!
 //! Where a function performs the accesses, [`Station::read`] and [`Station::write`] do the
 //! confirming, and abandon the operation when it fails: see [`Ports`]. `examples/score.rs` is a
-//! whole program.
+//! whole program. [`Station::read_in_units`] reads in lux, volts or degrees.
 //!
 //! A description that arrives in pieces, from a file or over a line, goes into [`Pieces`].
 
@@ -49,6 +49,7 @@ mod pieces;
 mod refusal;
 mod station;
 mod through;
+mod units;
 
 pub mod raw;
 
@@ -56,4 +57,5 @@ pub use description::{Description, Refused, Tables, Verdict};
 pub use pieces::Pieces;
 pub use refusal::Refusal;
 pub use station::{Access, Answer, Direction, Number, Operation, Station};
-pub use through::{Contradiction, Done, Outside, Ports, Stopped};
+pub use through::{Contradiction, Done, Outside, Ports, Reading, Stopped};
+pub use units::{Calibration, InUnits};

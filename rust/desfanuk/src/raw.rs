@@ -202,6 +202,35 @@ calls! {
         operation: &mut [u64],
         answer: &mut [i64],
     ) -> u64;
+
+    /// Begins the read of a variable in units; gain and offset are the 64 bits of two doubles.
+    pub begin_read_in_units: fn desfanuk_begin_read_in_units(
+        parameters: &[u32],
+        registers: &[u32],
+        variables: &[u32],
+        held: &[u32],
+        marks: &[u8],
+        operation: &mut [u64],
+        variable: usize,
+        gain: u64,
+        offset: u64,
+        answer: &mut [i64],
+    ) -> u64;
+
+    /// Confirms the access on offer; a read that is done gives its reading in units: 6, the high and
+    /// the low half of a double's bits, the accesses and 0. Refused by 54 (5, 54, 0, 0, 0) it is over.
+    pub confirm_in_units: fn desfanuk_confirm_in_units(
+        parameters: &[u32],
+        registers: &[u32],
+        variables: &[u32],
+        held: &mut [u32],
+        marks: &mut [u8],
+        operation: &mut [u64],
+        number: u32,
+        gain: u64,
+        offset: u64,
+        answer: &mut [i64],
+    ) -> u64;
 }
 
 /// The index of the variable of this name.

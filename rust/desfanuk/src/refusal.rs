@@ -7,7 +7,7 @@ use std::fmt;
 macro_rules! refusals {
     ($($name:ident = $number:literal, $words:literal;)*) => {
         /// Why a description or a call was refused. Only one is ever answered, and every refused
-        /// call leaves all as it was, but that 52 ends the read.
+        /// call leaves all as it was, but that 52 and 54 end the read.
         #[derive(Clone, Copy, Debug, PartialEq, Eq, PartialOrd, Ord, Hash)]
         #[non_exhaustive]
         #[repr(u8)]
@@ -73,6 +73,8 @@ refusals! {
     TooLow = 27, "the value is below the least of the variable's type";
     HalfWritten = 28, "the variable is half-written";
     Contradicted = 52, "the number read differs from a fixed bit of its register's read mask";
+    NoUnits = 53, "gain or offset is not finite, or the variable is a `bool`";
+    NotFinite = 54, "the product or the sum is not finite; given in place of done";
     TooHigh = 55, "the value is above the greatest of the variable's type";
 }
 

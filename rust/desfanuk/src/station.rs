@@ -61,10 +61,10 @@ pub enum Operation {
 /// A description in use, from an opening on.
 #[derive(Clone, Debug)]
 pub struct Station<'d> {
-    description: &'d Description,
-    record: Vec<Number>,
-    marks: Vec<u8>,
-    operation: [u64; OPERATION_WORDS],
+    pub(crate) description: &'d Description,
+    pub(crate) record: Vec<Number>,
+    pub(crate) marks: Vec<u8>,
+    pub(crate) operation: [u64; OPERATION_WORDS],
 }
 
 impl<'d> Station<'d> {
@@ -202,7 +202,7 @@ fn unless_refused(words: [i64; ANSWER_WORDS]) -> Result<(), Refusal> {
 }
 
 /// The answer of a begin or a confirmation that words tell.
-fn answered(words: [i64; ANSWER_WORDS]) -> Answer {
+pub(crate) fn answered(words: [i64; ANSWER_WORDS]) -> Answer {
     if let Err(refusal) = unless_refused(words) {
         return Answer::Refused(refusal);
     }

@@ -3,7 +3,7 @@
 use std::error::Error;
 use std::fmt;
 
-use crate::{Access, Answer, Number, Refusal, Station};
+use crate::{Access, Answer, Calibration, InUnits, Number, Refusal, Station};
 
 /// What performs accesses: the station's own way to its ports.
 pub trait Ports {
@@ -19,6 +19,15 @@ pub trait Ports {
 pub struct Done {
     /// The value read or written.
     pub value: i64,
+    /// How many accesses it took.
+    pub accesses: usize,
+}
+
+/// A read in units that is done.
+#[derive(Clone, Copy, Debug, PartialEq)]
+pub struct Reading {
+    /// The reading in units.
+    pub value: f64,
     /// How many accesses it took.
     pub accesses: usize,
 }
@@ -97,7 +106,7 @@ impl Error for Contradiction {}
 /// Why a read or write is not done.
 #[derive(Clone, Debug, PartialEq, Eq)]
 pub enum Stopped<F> {
-    /// It was refused, and no access was performed.
+    /// It was refused, and no access was performed; but by 54, in units, after the last of them.
     Refused(Refusal),
     /// The value to be written is too low (27) or too high (55), and no access was performed.
     Outside(Outside),
@@ -131,6 +140,57 @@ impl Station<'_> {
         self.carry_out(begun, ports)
     }
 
+    /// Reads a variable in units, access by access.
+    ///
+    /// ```
+    /// use desfanuk::{Access, Calibration, Description, Number, Ports, Station};
+    ///
+    /// /// A lamp whose light is 298 steps.
+    /// struct Lamp;
+    ///
+    /// impl Ports for Lamp {
+    ///     type Failure = std::convert::Infallible;
+    ///
+    ///     fn perform(&mut self, access: Access) -> Result<Number, Self::Failure> {
+    ///         Ok(if access.offset == 1 { 0x12 } else { 0xA0 })
+    ///     }
+    /// }
+    ///
+    /// let lamp = Description::load(include_str!("../../../boards/lamp.devil")).expect("a description");
+    /// let light = lamp.variable("light").expect("it has a light");
+    /// let mut station = Station::open(&lamp, &[0; 3]).expect("a number for each register");
+    /// let lux = Calibration { gain: 0.5, offset: 1024.0 };
+    /// let reading = station.read_in_units(light, lux, &mut Lamp).expect("it is read");
+    /// assert_eq!((reading.value, reading.accesses), (1173.0, 2));
+    /// ```
+    pub fn read_in_units<P: Ports>(
+        &mut self,
+        variable: usize,
+        calibration: Calibration,
+        ports: &mut P,
+    ) -> Result<Reading, Stopped<P::Failure>> {
+        let mut access = match self.begin_read_in_units(variable, calibration) {
+            Answer::Offer(access) => access,
+            Answer::Refused(refusal) => return Err(Stopped::Refused(refusal)),
+            answer => unreachable!("a begin offers or refuses, and gave {answer:?}"),
+        };
+        loop {
+            let number = self.perform(access, ports)?;
+            access = match self.confirm_in_units(number, calibration) {
+                InUnits::Offer(next) => next,
+                InUnits::Done { value, accesses } => return Ok(Reading { value, accesses }),
+                InUnits::NotFinite => return Err(Stopped::Refused(Refusal::NotFinite)),
+                InUnits::Refused(refusal) => return Err(Stopped::Refused(refusal)),
+                InUnits::Contradicted { register } => {
+                    return Err(Stopped::Contradicted(self.contradiction(register, number)))
+                }
+                answer @ InUnits::Written { .. } => {
+                    unreachable!("a read is in hand, and gave {answer:?}")
+                }
+            };
+        }
+    }
+
     /// Writes a variable, access by access.
     pub fn write<P: Ports>(
         &mut self,
@@ -160,16 +220,10 @@ impl Station<'_> {
         let mut number = 0;
         loop {
             answer = match answer {
-                Answer::Offer(access) => match ports.perform(access) {
-                    Ok(brought) => {
-                        number = brought;
-                        self.confirm(number)
-                    }
-                    Err(failure) => {
-                        self.abandon().expect("an operation is in hand");
-                        return Err(Stopped::Failed(failure));
-                    }
-                },
+                Answer::Offer(access) => {
+                    number = self.perform(access, ports)?;
+                    self.confirm(number)
+                }
                 Answer::Done { value, accesses } => return Ok(Done { value, accesses }),
                 Answer::Refused(refusal) => return Err(Stopped::Refused(refusal)),
                 Answer::Contradicted { register } => {
@@ -177,6 +231,18 @@ impl Station<'_> {
                 }
             };
         }
+    }
+
+    /// Performs an access, or abandons the operation where that fails.
+    fn perform<P: Ports>(
+        &mut self,
+        access: Access,
+        ports: &mut P,
+    ) -> Result<Number, Stopped<P::Failure>> {
+        ports.perform(access).map_err(|failure| {
+            self.abandon().expect("an operation is in hand");
+            Stopped::Failed(failure)
+        })
     }
 
     fn contradiction(&self, register: usize, number: Number) -> Contradiction {

@@ -8,7 +8,7 @@ use std::fs::{self, File};
 use std::path::{Path, PathBuf};
 use std::process::Command;
 
-use desfanuk::{raw, Refusal};
+use desfanuk::{raw, Calibration, Refusal};
 
 #[allow(dead_code)]
 #[path = "../examples/score.rs"]
@@ -17,6 +17,10 @@ mod score;
 #[allow(dead_code)]
 #[path = "../examples/pieces.rs"]
 mod pieces;
+
+#[allow(dead_code)]
+#[path = "../examples/lux.rs"]
+mod lux;
 
 const WARNINGS: [&str; 4] = ["-Wall", "-Wextra", "-Werror", "-pedantic"];
 
@@ -148,6 +152,33 @@ fn pieces_are_answered_alike_in_c_and_in_rust() {
             .arg(&program)
             .arg(bytes.to_string())
             .stdin(File::open(&path).expect("the text"))
+            .output()
+            .expect("it runs");
+        assert!(told.status.success());
+        assert_eq!(String::from_utf8_lossy(&told.stdout), want);
+    }
+}
+
+/// The lamp's scale from end to end; a gain so great that the light is not finite; and one that is no number.
+#[test]
+fn light_is_told_in_lux_alike_in_c_and_in_rust() {
+    let program = example("lux");
+    let board = of_repository("boards/lamp.devil");
+    let text = fs::read(&board).expect("the board");
+    let scale = "298 steps: 1173.0 lux\n-2048 steps: 0.0 lux\n2047 steps: 2047.5 lux\n";
+    let infinite = "298 steps: refused 54\n-2048 steps: refused 54\n2047 steps: refused 54\n";
+    let no_gain = "298 steps: refused 53\n-2048 steps: refused 53\n2047 steps: refused 53\n";
+    for (gain, want) in [(0.5, scale), (f64::MAX, infinite), (f64::NAN, no_gain)] {
+        let calibration = Calibration {
+            gain,
+            offset: 1024.0,
+        };
+        let told = lux::story(text.clone(), calibration, &[298, -2048, 2047]);
+        assert_eq!(told.expect("a story"), want);
+        let told = Command::new(of_repository("run"))
+            .arg(&program)
+            .arg(&board)
+            .args([&gain.to_string(), "1024", "298", "-2048", "2047"])
             .output()
             .expect("it runs");
         assert!(told.status.success());

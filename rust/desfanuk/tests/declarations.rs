@@ -111,7 +111,7 @@ fn in_c() -> Declarations {
 #[test]
 fn the_three_declarations_agree() {
     let rattle = in_rattle();
-    assert_eq!(rattle.len(), 10);
+    assert_eq!(rattle.len(), 12);
     assert_eq!(in_rust(), rattle);
     assert_eq!(in_c(), rattle);
 }

@@ -2,7 +2,7 @@
 
 use std::collections::BTreeMap;
 
-use crate::replay::Session;
+use crate::replay::{Call, Session};
 
 mod broken;
 mod lines;
@@ -11,6 +11,7 @@ mod random;
 mod runs;
 mod source;
 mod tables;
+mod units;
 mod valid;
 mod wide;
 mod written;
@@ -19,9 +20,10 @@ pub use broken::{broken, damaged, random_bytes};
 pub use lines::damaged_line;
 pub use pieces::pieces;
 pub use random::Random;
-pub use runs::{every_step, run};
+pub use runs::{calibrated_run, every_step, run};
 pub use source::{spell, Source, Style};
 pub use tables::{damaged_tables, sound_tables, TableSet};
+pub use units::{calibration, reading};
 pub use valid::{source, valid, Shape};
 pub use wide::{bits_above, number_for, some_number};
 pub use written::written;
@@ -56,8 +58,12 @@ pub fn distribution(seed: u64, count: usize) -> [usize; 17] {
 }
 
 /// How often each kind of answer came to the calls of so many runs: its first word, or a refusal's
-/// number.
-pub fn answers(seed: u64, runs: usize) -> BTreeMap<String, usize> {
+/// number. A run is one of `run`, or of `calibrated_run`.
+pub fn answers(
+    seed: u64,
+    runs: usize,
+    run: fn(&mut Random, &[u8], usize) -> Vec<Call>,
+) -> BTreeMap<String, usize> {
     let mut random = Random::new(seed);
     let mut seen = BTreeMap::new();
     for _ in 0..runs {

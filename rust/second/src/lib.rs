@@ -17,6 +17,7 @@ pub mod stored;
 mod syntax;
 mod tables;
 mod token;
+pub mod units;
 
 pub use description::{
     Bits, Description, Kind, Mask, Name, OffsetRange, Parameter, Part, Piece, Port, Register,
@@ -26,10 +27,12 @@ pub use load::{load, outline, Counts, Outline, Refusal, Verdict, TEXT_BYTES};
 pub use pieces::{Pieces, Taken};
 pub use sound::sound;
 pub use station::{
-    abandon, begin_read, begin_write, confirm, open, Access, Answer, Operation, Tables,
+    abandon, begin_calibrated, begin_read, begin_write, confirm, confirm_calibrated, open, Access,
+    Answer, Operation, Tables,
 };
 pub use syntax::{DEPTH, NAME_BYTES, PARAMETERS, PIECES, RANGES, REGISTERS, VARIABLES};
 pub use tables::{
     describe, load_into, lookup, tables, Loaded, PARAMETER_WORDS, REGISTER_WORDS, VARIABLE_WORDS,
 };
 pub use token::{scan, token_line, Lexeme, Sign, Token, Word, RESERVED};
+pub use units::Calibration;

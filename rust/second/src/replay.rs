@@ -5,14 +5,20 @@ use std::fmt;
 use crate::description::{Description, Part};
 use crate::frame;
 use crate::load::{load, Verdict};
-use crate::station::{abandon, begin_read, begin_write, confirm, open, Answer, Operation, Tables};
+use crate::station::{
+    abandon, begin_calibrated, begin_read, begin_write, confirm, confirm_calibrated, open, Answer,
+    Operation, Tables,
+};
 use crate::tables::{lookup, tables};
+use crate::units::Calibration;
 
 /// One line of a script.
 #[derive(Clone, Debug, PartialEq, Eq)]
 pub enum Call {
     Open(Vec<u32>),
     Read(usize),
+    /// A read in units; its confirmations are lent this calibration.
+    Calibrated(usize, Calibration),
     Write(usize, i64),
     Confirm(u32),
     Abandon,
@@ -38,6 +44,9 @@ impl fmt::Display for Call {
                 each.try_for_each(|number| write!(f, " 0x{number:02X}"))
             }
             Call::Read(variable) => write!(f, "read {variable}"),
+            Call::Calibrated(variable, Calibration { gain, offset }) => {
+                write!(f, "calibrated {variable} {gain:016X} {offset:016X}")
+            }
             Call::Write(variable, value) => write!(f, "write {variable} {value}"),
             Call::Confirm(number) => write!(f, "confirm 0x{number:02X}"),
             Call::Abandon => write!(f, "abandon"),
@@ -82,6 +91,14 @@ pub fn parse(line: &[u8]) -> Option<Call> {
                 .collect::<Option<_>>()?,
         ),
         [b"read", variable] => Call::Read(natural(variable)?),
+        [b"calibrated", variable, gain, offset] => {
+            let variable = natural(variable)?;
+            let calibration = Calibration {
+                gain: pattern(gain)?,
+                offset: pattern(offset)?,
+            };
+            Call::Calibrated(variable, calibration)
+        }
         [b"write", variable, z] => Call::Write(natural(variable)?, value(z)?),
         [b"confirm", number] => Call::Confirm(natural(number)?),
         [b"abandon"] => Call::Abandon,
@@ -116,6 +133,16 @@ pub fn fields(line: &[u8]) -> impl Iterator<Item = &[u8]> {
 /// A number without a sign, decimal or `0x..`.
 pub fn natural<T: TryFrom<i128>>(field: &[u8]) -> Option<T> {
     T::try_from(magnitude(field)?).ok()
+}
+
+/// A pattern of 64 bits: sixteen hexadecimal digits.
+fn pattern(field: &[u8]) -> Option<u64> {
+    if field.len() != 16 {
+        return None;
+    }
+    field.iter().try_fold(0, |bits, &b| {
+        Some(bits << 4 | u64::from((b as char).to_digit(16)?))
+    })
 }
 
 /// A value: a number, perhaps behind a minus.
@@ -154,6 +181,8 @@ pub struct Session {
     record: Vec<u32>,
     marks: Vec<u8>,
     operation: Operation,
+    /// That of the read in hand, if it is one in units.
+    calibration: Option<Calibration>,
     /// Before the first opening the station has no record and no marks.
     opened: bool,
     lent_record: Option<usize>,
@@ -177,6 +206,7 @@ impl Session {
             registers,
             variables,
             operation: Operation::Idle,
+            calibration: None,
             opened: false,
             lent_record: None,
             lent_marks: None,
@@ -193,7 +223,12 @@ impl Session {
 
     pub fn perform(&mut self, call: &Call) -> String {
         match call {
-            Call::Open(_) | Call::Read(_) | Call::Write(..) | Call::Confirm(_) | Call::Abandon => {
+            Call::Open(_)
+            | Call::Read(_)
+            | Call::Calibrated(..)
+            | Call::Write(..)
+            | Call::Confirm(_)
+            | Call::Abandon => {
                 let answer = self.station_call(call);
                 self.widths.answer(answer)
             }
@@ -212,6 +247,7 @@ impl Session {
             }
             Call::Hold(operation) => {
                 self.operation = *operation;
+                self.calibration = None;
                 "held".to_string()
             }
         }
@@ -230,13 +266,28 @@ impl Session {
         let answer = match call {
             Call::Open(numbers) => open(tables, numbers, record, marks, operation),
             Call::Read(variable) => begin_read(tables, record, marks, operation, *variable),
+            Call::Calibrated(variable, calibration) => {
+                begin_calibrated(tables, record, marks, operation, *variable, *calibration)
+            }
             Call::Write(variable, value) => {
                 begin_write(tables, record, marks, operation, *variable, *value)
             }
-            Call::Confirm(number) => confirm(tables, record, marks, operation, *number),
+            Call::Confirm(number) => match self.calibration {
+                None => confirm(tables, record, marks, operation, *number),
+                Some(calibration) => {
+                    confirm_calibrated(tables, record, marks, operation, *number, calibration)
+                }
+            },
             _ => abandon(tables, record, marks, operation),
         };
         self.opened |= answer == Answer::Opened;
+        match (call, answer) {
+            (Call::Calibrated(_, calibration), Answer::Offer(_)) => {
+                self.calibration = Some(*calibration);
+            }
+            _ if self.operation == Operation::Idle => self.calibration = None,
+            _ => {}
+        }
         answer
     }
 
@@ -299,9 +350,11 @@ impl Widths {
                 format!("offer {direction} {parameter} {offset} 0x{number}")
             }
             Answer::Done { value, accesses } => format!("done {value} {accesses}"),
+            Answer::Measured { bits, accesses } => format!("done {bits:016X} {accesses}"),
             Answer::Abandoned => "abandoned".to_string(),
             Answer::Refused(number) => format!("refused {number}"),
             Answer::Contradicted { register } => format!("refused 52 {register}"),
+            Answer::NotFinite => "refused 54".to_string(),
         }
     }
 }
@@ -395,6 +448,13 @@ mod tests {
             Call::Open(vec![0, 0xA5, 0x1_0000, u32::MAX]),
             Call::Open(vec![]),
             Call::Read(3),
+            Call::Calibrated(
+                3,
+                Calibration {
+                    gain: 0x0123_4567_89AB_CDEF,
+                    offset: u64::MAX,
+                },
+            ),
             Call::Write(2, -7),
             Call::Confirm(255),
             Call::Confirm(u32::MAX),
@@ -432,6 +492,14 @@ mod tests {
             "read x",
             "read -1",
             "write 1",
+            "calibrated 0 3FF0000000000000",
+            "calibrated 3FF0000000000000 3FF0000000000000",
+            "calibrated x 3FF0000000000000 3FF0000000000000",
+            "calibrated 0 3FF000000000000 3FF0000000000000",
+            "calibrated 0 3FF0000000000000 03FF0000000000000",
+            "calibrated 0 0x3FF00000000000 0000000000000000",
+            "calibrated 0 3FF000000000000G 0000000000000000",
+            "calibrated 0 3FF0000000000000 0000000000000000 0",
             "confirm",
             "confirm 4294967296",
             "abandon 1",

@@ -3,12 +3,13 @@
 //! All state is the caller's: the record (for each register the last number confirmed as written),
 //! the marks (one for each variable, 0 is clean), and the operation in hand. Every call takes any
 //! tables, tests its refusals from 20 up, and leaves everything unchanged when it refuses; only
-//! refusal 52 ends the operation in hand. In every number lent for a register, bits above its width
-//! count as 0.
+//! refusals 52 and 54 end the operation in hand. In every number lent for a register, bits above its
+//! width count as 0.
 
 use crate::description::{Bits, Description, Kind, Part, Port, Variable};
 use crate::sound::sound;
 use crate::tables::describe;
+use crate::units::Calibration;
 
 /// The three lent tables.
 #[derive(Clone, Copy, Debug)]
@@ -53,12 +54,19 @@ pub enum Answer {
         value: i64,
         accesses: usize,
     },
+    /// A calibrated read is done: the pattern of its result in units.
+    Measured {
+        bits: u64,
+        accesses: usize,
+    },
     Abandoned,
     Refused(u8),
     /// Refusal 52: the number read contradicts the fixed bits of this register, and the operation has ended.
     Contradicted {
         register: usize,
     },
+    /// Refusal 54, in place of done: product or sum is not finite, and the operation has ended.
+    NotFinite,
 }
 
 type Answered = Result<Answer, u8>;
@@ -95,22 +103,54 @@ pub fn begin_read(
     operation: &mut Operation,
     variable: usize,
 ) -> Answer {
-    answer((|| {
-        let description = described(tables)?;
-        long_enough(&description, record, marks)?;
-        none_in_hand(&description, operation)?;
-        let wanted = description.variables.get(variable).ok_or(25)?;
-        let bits = wanted.read.as_ref().ok_or(26)?;
-        if marks[variable] != 0 {
-            return Err(28);
-        }
-        *operation = Operation::Reading {
-            variable,
-            step: 0,
-            gathered: 0,
-        };
-        Ok(Answer::Offer(read_access(&description, bits, 0)))
-    })())
+    answer(begin_reading(
+        tables, record, marks, operation, variable, None,
+    ))
+}
+
+/// Begins to read a variable in units: offers its first access. The operation in hand is that of a plain read, and the
+/// calibration is lent again at each of its confirmations.
+pub fn begin_calibrated(
+    tables: Tables,
+    record: &[u32],
+    marks: &[u8],
+    operation: &mut Operation,
+    variable: usize,
+    calibration: Calibration,
+) -> Answer {
+    answer(begin_reading(
+        tables,
+        record,
+        marks,
+        operation,
+        variable,
+        Some(calibration),
+    ))
+}
+
+fn begin_reading(
+    tables: Tables,
+    record: &[u32],
+    marks: &[u8],
+    operation: &mut Operation,
+    variable: usize,
+    calibration: Option<Calibration>,
+) -> Answered {
+    let description = described(tables)?;
+    long_enough(&description, record, marks)?;
+    none_in_hand(&description, operation)?;
+    let wanted = description.variables.get(variable).ok_or(25)?;
+    let bits = wanted.read.as_ref().ok_or(26)?;
+    if marks[variable] != 0 {
+        return Err(28);
+    }
+    fits_units(wanted, calibration)?;
+    *operation = Operation::Reading {
+        variable,
+        step: 0,
+        gathered: 0,
+    };
+    Ok(Answer::Offer(read_access(&description, bits, 0)))
 }
 
 /// Begins to write a variable: offers its first access.
@@ -153,73 +193,131 @@ pub fn confirm(
     operation: &mut Operation,
     number: u32,
 ) -> Answer {
-    answer((|| {
-        let description = described(tables)?;
-        long_enough(&description, record, marks)?;
-        match in_hand(&description, operation)? {
-            InHand::Nothing => Err(24),
-            InHand::Read(reading) => {
-                let Reading {
-                    variable,
-                    bits,
-                    step,
-                    gathered,
-                } = reading;
-                let register = plan(bits)[step];
-                let number = description.registers[register].cut(number);
-                if !read_port(&description, register).mask.fits(number) {
-                    *operation = Operation::Idle;
-                    return Ok(Answer::Contradicted { register });
-                }
-                let gathered = gathered | gather(bits, register, number);
-                let step = step + 1;
-                if step < plan(bits).len() {
-                    *operation = Operation::Reading {
-                        variable,
-                        step,
-                        gathered,
-                    };
-                    return Ok(Answer::Offer(read_access(&description, bits, step)));
-                }
-                *operation = Operation::Idle;
-                Ok(Answer::Done {
-                    value: value_of(&description.variables[variable], gathered),
-                    accesses: step,
-                })
-            }
-            InHand::Write(writing) => {
-                let Writing {
-                    variable,
-                    bits,
-                    step,
-                    value,
-                } = writing;
-                let access = write_access(&description, bits, step, value, record);
-                record[plan(bits)[step]] = access.number;
-                let step = step + 1;
-                if step < plan(bits).len() {
-                    *operation = Operation::Writing {
-                        variable,
-                        step,
-                        value,
-                    };
-                    return Ok(Answer::Offer(write_access(
-                        &description,
-                        bits,
-                        step,
-                        value,
-                        record,
-                    )));
-                }
-                marks[variable] = 0;
-                *operation = Operation::Idle;
-                Ok(Answer::Done {
-                    value: value_of(&description.variables[variable], value),
-                    accesses: step,
-                })
-            }
+    answer(confirmed(tables, record, marks, operation, number, None))
+}
+
+/// Confirms the access on offer like `confirm`; a read that is done answers in units. A calibration, or a type, that a
+/// begin would refuse is 53 here too.
+pub fn confirm_calibrated(
+    tables: Tables,
+    record: &mut [u32],
+    marks: &mut [u8],
+    operation: &mut Operation,
+    number: u32,
+    calibration: Calibration,
+) -> Answer {
+    answer(confirmed(
+        tables,
+        record,
+        marks,
+        operation,
+        number,
+        Some(calibration),
+    ))
+}
+
+fn confirmed(
+    tables: Tables,
+    record: &mut [u32],
+    marks: &mut [u8],
+    operation: &mut Operation,
+    number: u32,
+    calibration: Option<Calibration>,
+) -> Answered {
+    let description = described(tables)?;
+    long_enough(&description, record, marks)?;
+    match in_hand(&description, operation)? {
+        InHand::Nothing => Err(24),
+        InHand::Read(reading) => {
+            confirm_read(&description, reading, operation, number, calibration)
         }
-    })())
+        InHand::Write(writing) => {
+            fits_units(&description.variables[writing.variable], calibration)?;
+            Ok(confirm_write(
+                &description,
+                writing,
+                record,
+                marks,
+                operation,
+            ))
+        }
+    }
+}
+
+/// Refusal 52 comes before 53: it is the lower one.
+fn confirm_read(
+    description: &Description,
+    reading: Reading,
+    operation: &mut Operation,
+    number: u32,
+    calibration: Option<Calibration>,
+) -> Answered {
+    let Reading {
+        variable,
+        bits,
+        step,
+        gathered,
+    } = reading;
+    let register = plan(bits)[step];
+    let number = description.registers[register].cut(number);
+    if !read_port(description, register).mask.fits(number) {
+        *operation = Operation::Idle;
+        return Ok(Answer::Contradicted { register });
+    }
+    let wanted = &description.variables[variable];
+    fits_units(wanted, calibration)?;
+    let gathered = gathered | gather(bits, register, number);
+    let accesses = step + 1;
+    if accesses < plan(bits).len() {
+        *operation = Operation::Reading {
+            variable,
+            step: accesses,
+            gathered,
+        };
+        return Ok(Answer::Offer(read_access(description, bits, accesses)));
+    }
+    *operation = Operation::Idle;
+    let value = value_of(wanted, gathered);
+    let Some(calibration) = calibration else {
+        return Ok(Answer::Done { value, accesses });
+    };
+    Ok(match calibration.apply(value) {
+        Some(bits) => Answer::Measured { bits, accesses },
+        None => Answer::NotFinite,
+    })
+}
+
+fn confirm_write(
+    description: &Description,
+    writing: Writing,
+    record: &mut [u32],
+    marks: &mut [u8],
+    operation: &mut Operation,
+) -> Answer {
+    let Writing {
+        variable,
+        bits,
+        step,
+        value,
+    } = writing;
+    let access = write_access(description, bits, step, value, record);
+    record[plan(bits)[step]] = access.number;
+    let step = step + 1;
+    if step < plan(bits).len() {
+        *operation = Operation::Writing {
+            variable,
+            step,
+            value,
+        };
+        let access = write_access(description, bits, step, value, record);
+        return Answer::Offer(access);
+    }
+    marks[variable] = 0;
+    *operation = Operation::Idle;
+    Answer::Done {
+        value: value_of(&description.variables[variable], value),
+        accesses: step,
+    }
 }
 
 /// Abandons the operation in hand. A write marks its variable half-written.
@@ -389,6 +487,14 @@ fn number_to_write(bits: &Bits, register: usize, port: &Port, value: u32, record
         }
     }
     number
+}
+
+/// Refusal 53, where an answer is to be in units: gain and offset are finite, and the type is numeric.
+fn fits_units(variable: &Variable, calibration: Option<Calibration>) -> Result<(), u8> {
+    match calibration {
+        Some(units) if !units.is_finite() || variable.kind == Kind::Bool => Err(53),
+        _ => Ok(()),
+    }
 }
 
 fn read_port(description: &Description, register: usize) -> Port {
@@ -747,6 +853,123 @@ mod tests {
                     value: 1,
                     accesses: 1
                 }
+            );
+        }
+    }
+
+    const ONE: Calibration = Calibration {
+        gain: 0x3FF0_0000_0000_0000,
+        offset: 0,
+    };
+
+    const INFINITE: Calibration = Calibration {
+        gain: 0x7FF0_0000_0000_0000,
+        offset: 0,
+    };
+
+    /// A signed variable, one whose register has a fixed bit, and a bool.
+    const UNITS: &[u8] = b"device d(b:bit[8] port@{0..1}){register r=b:bit[8];\
+        register s=b@1,mask '1.......':bit[8];\
+        variable v=r[7..1]:signed int(7);variable w=r[0]:bool;variable x=s[6..0]:int(7);}";
+
+    /// A begin of a calibrated read: whatever is lower than 53 comes first, and every refusal leaves the operation.
+    #[test]
+    fn calibrated_begins() {
+        let Verdict::Accepted { description } = load(UNITS) else {
+            panic!()
+        };
+        let words: [Vec<u32>; 3] = tables(&description).into();
+        let reading = Operation::Reading {
+            variable: 0,
+            step: 0,
+            gathered: 0,
+        };
+        for (held, marks, variable, calibration, want) in [
+            (Operation::Idle, [0; 3], 0, ONE, None),
+            (Operation::Idle, [0; 3], 0, INFINITE, Some(53)),
+            (Operation::Idle, [0; 3], 1, ONE, Some(53)),
+            (Operation::Idle, [0; 3], 1, INFINITE, Some(53)),
+            (Operation::Idle, [0, 1, 1], 0, ONE, None),
+            (Operation::Idle, [1, 0, 0], 0, INFINITE, Some(28)),
+            (Operation::Idle, [0, 1, 0], 1, ONE, Some(28)),
+            (Operation::Idle, [0; 3], 3, INFINITE, Some(25)),
+            (reading, [0; 3], 0, INFINITE, Some(23)),
+            (reading, [0; 3], 1, ONE, Some(23)),
+        ] {
+            let mut operation = held;
+            let answer = begin_calibrated(
+                lent(&words),
+                &[0; 2],
+                &marks,
+                &mut operation,
+                variable,
+                calibration,
+            );
+            match want {
+                Some(number) => assert_eq!((answer, operation), (Answer::Refused(number), held)),
+                None => assert!(matches!(answer, Answer::Offer(_)) && operation == reading),
+            }
+        }
+    }
+
+    /// What a confirmation in units answers to each operation in hand, and whether that is still in hand.
+    #[test]
+    fn calibrated_confirmations() {
+        let Verdict::Accepted { description } = load(UNITS) else {
+            panic!()
+        };
+        let words: [Vec<u32>; 3] = tables(&description).into();
+        let read = |variable| Operation::Reading {
+            variable,
+            step: 0,
+            gathered: 0,
+        };
+        let write = |variable| Operation::Writing {
+            variable,
+            step: 0,
+            value: 1,
+        };
+        let huge = Calibration {
+            gain: 0x7FEF_FFFF_FFFF_FFFF,
+            offset: 0,
+        };
+        let minus_one = Answer::Measured {
+            bits: 0xBFF0_0000_0000_0000,
+            accesses: 1,
+        };
+        let done = Answer::Done {
+            value: 1,
+            accesses: 1,
+        };
+        let contradicted = Answer::Contradicted { register: 1 };
+        for (held, byte, calibration, want, ended) in [
+            (read(0), 0xFE, ONE, minus_one, true),
+            (read(0), 0xFC, huge, Answer::NotFinite, true),
+            (read(0), 0xFE, INFINITE, Answer::Refused(53), false),
+            (read(1), 0xFE, ONE, Answer::Refused(53), false),
+            (read(2), 0x7F, ONE, contradicted, true),
+            (read(2), 0x7F, INFINITE, contradicted, true),
+            (read(2), 0xFF, INFINITE, Answer::Refused(53), false),
+            (write(0), 0xFE, ONE, done, true),
+            (write(0), 0xFE, INFINITE, Answer::Refused(53), false),
+            (write(1), 0xFE, ONE, Answer::Refused(53), false),
+            (Operation::Idle, 0, INFINITE, Answer::Refused(24), true),
+            (read(3), 0, INFINITE, Answer::Refused(22), false),
+        ] {
+            let (mut record, mut marks, mut operation) = ([0; 2], [0; 3], held);
+            let answer = confirm_calibrated(
+                lent(&words),
+                &mut record,
+                &mut marks,
+                &mut operation,
+                byte,
+                calibration,
+            );
+            assert_eq!(answer, want, "{held:?}");
+            assert_eq!(operation, if ended { Operation::Idle } else { held });
+            assert_eq!(
+                (record[0], marks),
+                (if want == done { 2 } else { 0 }, [0; 3])
             );
         }
     }

@@ -214,7 +214,7 @@ fn refusals_leave_the_state() {
 /// Sound tables leave no refusal 20; every other answer of a station comes once in a hundred times.
 #[test]
 fn runs_have_every_answer() {
-    let seen = answers(4, 200);
+    let seen = answers(4, 200, run);
     let total: usize = seen.values().sum();
     for kind in [
         "opened",

@@ -84,6 +84,17 @@ fn arrivals_writes_the_stored_answers() {
 }
 
 #[test]
+fn readings_writes_the_stored_lines() {
+    let program = env!("CARGO_BIN_EXE_readings");
+    let input = stored("crates/readings/stdin");
+    let written = run(program, &[], &input);
+    assert!(written == (stored("crates/readings/stdout"), true));
+    assert_eq!(run(program, &[], &input[..19]), (Vec::new(), true));
+    let one = (b"0000000000000000\n".to_vec(), true);
+    assert_eq!(run(program, &[], &[0; 39]), one);
+}
+
+#[test]
 fn generate_follows_its_seed() {
     let program = env!("CARGO_BIN_EXE_generate");
     let texts = run(program, &["texts", "7", "20"], b"");
@@ -98,5 +109,10 @@ fn generate_follows_its_seed() {
     let (scripts, good) = run(program, &["pieces", "7", "20"], b"");
     assert!(good);
     let (answers, good) = run(env!("CARGO_BIN_EXE_arrivals"), &[], &scripts);
+    assert!(good && !String::from_utf8(answers).unwrap().contains("unknown"));
+    let (records, good) = run(program, &["readings", "7", "20"], b"");
+    assert!(good && records.len() == 400);
+    let (script, _) = run(program, &["calibrated", "7"], b"");
+    let (answers, good) = run(env!("CARGO_BIN_EXE_replay"), &[], &script);
     assert!(good && !String::from_utf8(answers).unwrap().contains("unknown"));
 }

@@ -137,6 +137,8 @@ fn every_answer_is_there() {
         "refused 27",
         "refused 28",
         "refused 52",
+        "refused 53",
+        "refused 54",
         "refused 55",
     ] {
         let count = output
@@ -175,6 +177,7 @@ fn names_are_told_apart() {
     names.extend(stored::scripts().into_iter().map(|script| script.name));
     let scripts = stored::piece_scripts().into_iter();
     names.extend(scripts.map(|script| script.name));
+    names.extend(stored::readings().into_iter().map(|case| case.name));
     let count = names.len();
     names.sort();
     names.dedup();

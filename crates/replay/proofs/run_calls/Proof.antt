@@ -2,7 +2,7 @@
 use native.Mathlib.Omega.{arith}
 use borrow.Author.Needs.{needs}
 use mathlib.Core.Path.{_≡_, refl}
-use Prim.Native.Nat.{_≤_, _-_}
+use Prim.Native.Nat.{_≤_, _<_, _+_, _-_, _^_}
 use lib.ListN.{length}
 use Rattle.script.proofs.WordLaws.{line-within}
 use Rattle.replay.proofs.run_calls.Statement.{statement}
@@ -53,7 +53,7 @@ hear-requires : tie.Need-hear-requires Inv-loop μ-loop
 hear-requires c κs = search needs
 
 add-at : tie.Need-add-at Inv-loop μ-loop
-add-at c = record { fits = omega (arith, line-within _ _ _ (c .before .before .before .before .before .before .before .before .line-end .ensures) (c .before .before .before .before .before .before .before .before .before .before .before .before .loop-test .taken) .1) }
+add-at c = let next : c .before .before .before .before .before .before .before .before .line-end .result + 1 < 2 ^ 64 = omega (arith, c .before .before .before .before .before .before .before .before .before .before .before .before .before .before .before .before .before .before .before .before .before .before .good .0 .1, line-within _ _ _ (c .before .before .before .before .before .before .before .before .line-end .ensures) (c .before .before .before .before .before .before .before .before .before .before .before .before .loop-test .taken) .1) in record { fits = next }
 
 loop-less : tie.Need-loop-less Inv-loop μ-loop
 loop-less c = omega (arith, c .before .before .before .before .before .before .before .before .before .before .before .before .loop-test .taken, line-within _ _ _ (c .before .before .before .before .before .before .before .before .line-end .ensures) (c .before .before .before .before .before .before .before .before .before .before .before .before .loop-test .taken) .0)

@@ -2,72 +2,91 @@
 //!
 //! - `generate texts SEED COUNT`: so many framed texts
 //! - `generate script SEED`: a framed text and calls over it, for `replay`
+//! - `generate calibrated SEED`: one whose reads are mostly in units
 //! - `generate pieces SEED COUNT`: so many framed scripts, each a text in pieces, for `pieces`
+//! - `generate readings SEED COUNT`: so many records, for `readings`
 //! - `generate distribution SEED COUNT`: how often each verdict comes among so many texts
 //! - `generate answers SEED COUNT`: how often each answer comes in so many runs of calls
 
-use std::io::{self, BufWriter, Write};
+use std::io::{self, Write};
 
-use second::generate::{answers, distribution, every_step, pieces, run, text, valid, Random};
+use second::generate::{
+    answers, calibrated_run, distribution, every_step, pieces, reading, run, text, valid, Random,
+};
+use second::replay::Call;
+use second::{frame, units};
 
 fn main() -> io::Result<()> {
     let arguments: Vec<String> = std::env::args().skip(1).collect();
     let words: Vec<&str> = arguments.iter().map(String::as_str).collect();
-    let mut out = BufWriter::new(io::stdout().lock());
-    match words[..] {
-        ["texts", seed, count] => {
-            let mut random = Random::new(number(seed));
-            for _ in 0..number(count) {
-                let mut framed = Vec::new();
-                second::frame::write(&text(&mut random), &mut framed);
-                out.write_all(&framed)?;
-            }
-        }
-        ["script", seed] => {
-            let mut random = Random::new(number(seed));
-            let text = valid(&mut random);
-            let calls = match random.below(4) {
-                0 => every_step(&mut random, &text),
-                _ => {
-                    let length = random.between(1, 200);
-                    run(&mut random, &text, length)
-                }
-            };
-            let mut framed = Vec::new();
-            second::frame::write(&text, &mut framed);
-            out.write_all(&framed)?;
-            for call in calls {
-                writeln!(out, "{call}")?;
-            }
-        }
-        ["pieces", seed, count] => {
-            let mut random = Random::new(number(seed));
-            for _ in 0..number(count) {
-                let (mut script, mut framed) = (Vec::new(), Vec::new());
-                let calls = pieces(&mut random);
-                calls.iter().for_each(|call| call.write(&mut script));
-                second::frame::write(&script, &mut framed);
-                out.write_all(&framed)?;
-            }
-        }
-        ["distribution", seed, count] => {
-            let seen = distribution(number(seed), number(count) as usize);
-            writeln!(out, "accepted {}", seen[0])?;
+    let written = match words[..] {
+        ["script", seed] => script(&mut Random::new(number(seed))),
+        ["calibrated", seed] => calibrated(&mut Random::new(number(seed))),
+        [kind, seed, count] => many(kind, number(seed), number(count) as usize),
+        _ => usage(),
+    };
+    io::stdout().lock().write_all(&written)
+}
+
+fn many(kind: &str, seed: u64, count: usize) -> Vec<u8> {
+    let mut random = Random::new(seed);
+    let mut to = Vec::new();
+    match kind {
+        "texts" => (0..count).for_each(|_| frame::write(&text(&mut random), &mut to)),
+        "pieces" => (0..count).for_each(|_| {
+            let mut script = Vec::new();
+            let calls = pieces(&mut random);
+            calls.iter().for_each(|call| call.write(&mut script));
+            frame::write(&script, &mut to);
+        }),
+        "readings" => (0..count).for_each(|_| {
+            let (calibration, reading) = reading(&mut random);
+            to.extend(units::record(calibration, reading));
+        }),
+        "distribution" => {
+            let seen = distribution(seed, count);
+            to.extend(format!("accepted {}\n", seen[0]).bytes());
             for (refusal, count) in seen.iter().enumerate().skip(1) {
-                writeln!(out, "refused {refusal}: {count}")?;
+                to.extend(format!("refused {refusal}: {count}\n").bytes());
             }
         }
-        ["answers", seed, count] => {
-            for (kind, count) in answers(number(seed), number(count) as usize) {
-                writeln!(out, "{kind}: {count}")?;
+        "answers" => {
+            for (kind, count) in answers(seed, count, run) {
+                to.extend(format!("{kind}: {count}\n").bytes());
             }
         }
-        _ => {
-            eprintln!("generate texts SEED COUNT | script SEED | pieces SEED COUNT | distribution SEED COUNT | answers SEED COUNT");
-            std::process::exit(2);
-        }
+        _ => usage(),
     }
-    out.flush()
+    to
+}
+
+fn script(random: &mut Random) -> Vec<u8> {
+    let text = valid(random);
+    let calls = match random.below(4) {
+        0 => every_step(random, &text),
+        _ => {
+            let length = random.between(1, 200);
+            run(random, &text, length)
+        }
+    };
+    written(&text, &calls)
+}
+
+fn calibrated(random: &mut Random) -> Vec<u8> {
+    let text = valid(random);
+    let length = random.between(1, 200);
+    let calls = calibrated_run(random, &text, length);
+    written(&text, &calls)
+}
+
+/// A text and calls over it, as `replay` reads them.
+fn written(text: &[u8], calls: &[Call]) -> Vec<u8> {
+    let mut to = Vec::new();
+    frame::write(text, &mut to);
+    for call in calls {
+        to.extend(format!("{call}\n").bytes());
+    }
+    to
 }
 
 fn number(word: &str) -> u64 {
@@ -75,4 +94,10 @@ fn number(word: &str) -> u64 {
         eprintln!("{word} is no number");
         std::process::exit(2)
     })
+}
+
+fn usage() -> ! {
+    eprintln!("generate script|calibrated SEED");
+    eprintln!("generate texts|pieces|readings|distribution|answers SEED COUNT");
+    std::process::exit(2)
 }

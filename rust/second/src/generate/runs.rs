@@ -1,14 +1,25 @@
 //! Runs of calls over a text: good ones, refused ones, out of order, and abandoned at every step.
 
 use super::wide::{bits_above, number_for, some_number};
-use super::Random;
-use crate::description::{all_bits, Bits, Description, Mask, Part, Register, Variable, PARTS};
+use super::{calibration, Random};
+use crate::description::{
+    all_bits, Bits, Description, Kind, Mask, Part, Register, Variable, PARTS,
+};
 use crate::load::{load, Verdict};
 use crate::replay::{Call, Session};
 use crate::station::{plan, Operation};
 
-/// So many calls over an accepted text.
+/// So many calls over an accepted text; all reads are of plain values.
 pub fn run(random: &mut Random, text: &[u8], length: usize) -> Vec<Call> {
+    calls(random, text, length, false)
+}
+
+/// So many calls over an accepted text; most reads are in units.
+pub fn calibrated_run(random: &mut Random, text: &[u8], length: usize) -> Vec<Call> {
+    calls(random, text, length, true)
+}
+
+fn calls(random: &mut Random, text: &[u8], length: usize, units: bool) -> Vec<Call> {
     let Verdict::Accepted { description } = load(text) else {
         return Vec::new();
     };
@@ -35,6 +46,14 @@ pub fn run(random: &mut Random, text: &[u8], length: usize) -> Vec<Call> {
         } else {
             next(random, &description, text, &session, calls.is_empty())
         };
+        let call = match call {
+            Call::Write(..) if units && random.one_in(4) => read(random, &description, &session),
+            other => other,
+        };
+        let call = match call {
+            Call::Read(variable) if units => in_units(random, &description, variable),
+            other => other,
+        };
         match call {
             Call::LendRecord(count) => short_record = count.is_some(),
             Call::LendMarks(count) => short_marks = count.is_some(),
@@ -46,6 +65,16 @@ pub fn run(random: &mut Random, text: &[u8], length: usize) -> Vec<Call> {
         calls.push(call);
     }
     calls
+}
+
+/// A read in units, if the variable is a number and mostly only then.
+fn in_units(random: &mut Random, description: &Description, variable: usize) -> Call {
+    let wanted = description.variables.get(variable);
+    let numeric = wanted.is_none_or(|variable| variable.kind != Kind::Bool);
+    match numeric != random.one_in(8) {
+        true => Call::Calibrated(variable, calibration(random)),
+        false => Call::Read(variable),
+    }
 }
 
 fn next(

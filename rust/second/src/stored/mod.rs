@@ -11,15 +11,19 @@ mod lines;
 mod order;
 mod pieces;
 mod places;
+mod readings;
 mod rules;
 mod runs;
 mod scripts;
 mod sizes;
 mod tokens;
+mod units;
 mod widths;
 
 pub use pieces::{scripts as piece_scripts, PieceScript};
+pub use readings::{cases as readings, Reading};
 
+use crate::units::{record, RECORD_BYTES};
 use crate::{frame, load, outline, replay, token_line};
 
 /// Where the files lie that no proved program reads.
@@ -86,6 +90,7 @@ pub fn scripts() -> Vec<Script> {
     scripts.extend(places::scripts());
     scripts.extend(contradictions::scripts());
     scripts.extend(widths::scripts());
+    scripts.extend(units::scripts());
     scripts.extend(runs::scripts());
     scripts.extend(lines::scripts());
     scripts
@@ -132,6 +137,7 @@ pub fn files() -> Result<Vec<StoredFile>, String> {
     files.extend(text_files()?);
     files.extend(script_files()?);
     files.extend(piece_files()?);
+    files.extend(reading_files()?);
     Ok(files)
 }
 
@@ -215,6 +221,29 @@ fn piece_files() -> Result<Vec<StoredFile>, String> {
         ("crates/arrivals/stdin".to_string(), framed),
         ("crates/arrivals/stdout".to_string(), output.into_bytes()),
         (format!("{HOME}/pieces.names"), names.into_bytes()),
+    ])
+}
+
+/// Input and output of the proved program `readings`, and the records' names. Behind the last whole record stand the
+/// bytes of another that lacks one.
+fn reading_files() -> Result<Vec<StoredFile>, String> {
+    let mut input = Vec::new();
+    let mut output = String::new();
+    let mut names = String::new();
+    for case in readings() {
+        let line = case.calibration.line(case.reading);
+        if case.expected.as_ref().is_some_and(|want| *want != line) {
+            return Err(format!("{}: {line}, not {:?}", case.name, case.expected));
+        }
+        input.extend(record(case.calibration, case.reading));
+        output += &format!("{line}\n");
+        names += &format!("{}\n", case.name);
+    }
+    input.extend_from_within(..RECORD_BYTES - 1);
+    Ok(vec![
+        ("crates/readings/stdin".to_string(), input),
+        ("crates/readings/stdout".to_string(), output.into_bytes()),
+        (format!("{HOME}/readings.names"), names.into_bytes()),
     ])
 }
 

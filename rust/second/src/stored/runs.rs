@@ -1,7 +1,8 @@
 //! Scripts that no paper writes: lives of the boards, and generated ones.
 
 use super::Script;
-use crate::generate::{damaged_line, every_step, run, valid, Random};
+use crate::generate::{calibrated_run, damaged_line, every_step, run, valid, Random};
+use crate::replay::Call;
 
 /// Texts longer than this add bytes to the stored files and nothing else.
 const LONGEST: usize = 700;
@@ -29,17 +30,24 @@ pub fn scripts() -> Vec<Script> {
         let text = short_text(&mut random);
         let length = random.between(5, 40);
         let calls = run(&mut random, &text, length);
-        let mut script = generated("damaged", number, text, &[]);
-        for call in calls {
-            let line = call.to_string().into_bytes();
-            let damaged = random.one_in(3);
-            script.lines.extend(match damaged {
-                true => damaged_line(&mut random, line),
-                false => line,
-            });
-            script.lines.push(b'\n');
-        }
-        scripts.push(script);
+        scripts.push(damaged(&mut random, "damaged", number, text, &calls));
+    }
+    scripts.extend(in_units());
+    scripts
+}
+
+/// Runs whose reads are mostly in units; in every third of them some lines are damaged.
+fn in_units() -> Vec<Script> {
+    let mut random = Random::new(10);
+    let mut scripts = Vec::new();
+    for number in 0..60 {
+        let text = short_text(&mut random);
+        let length = random.between(5, 60);
+        let calls = calibrated_run(&mut random, &text, length);
+        scripts.push(match number % 3 {
+            0 => damaged(&mut random, "calibrated", number, text, &calls),
+            _ => generated("calibrated", number, text, &calls),
+        });
     }
     scripts
 }
@@ -53,7 +61,7 @@ fn short_text(random: &mut Random) -> Vec<u8> {
     }
 }
 
-fn generated(kind: &str, number: usize, text: Vec<u8>, calls: &[crate::replay::Call]) -> Script {
+fn generated(kind: &str, number: usize, text: Vec<u8>, calls: &[Call]) -> Script {
     Script {
         name: format!("generated-{kind}-{number}"),
         text,
@@ -63,6 +71,27 @@ fn generated(kind: &str, number: usize, text: Vec<u8>, calls: &[crate::replay::C
             .collect(),
         expected: None,
     }
+}
+
+/// With every third line damaged, or so.
+fn damaged(
+    random: &mut Random,
+    kind: &str,
+    number: usize,
+    text: Vec<u8>,
+    calls: &[Call],
+) -> Script {
+    let mut script = generated(kind, number, text, &[]);
+    for call in calls {
+        let line = call.to_string().into_bytes();
+        let damaged = random.one_in(3);
+        script.lines.extend(match damaged {
+            true => damaged_line(random, line),
+            false => line,
+        });
+        script.lines.push(b'\n');
+    }
+    script
 }
 
 /// The scripts that lie beside a board's description. Their comments `; -> ..` are the answers.
@@ -76,7 +105,12 @@ fn lives() -> Vec<Script> {
             )
         };
     }
-    vec![board!("scoring"), board!("ide"), board!("pci")]
+    vec![
+        board!("scoring"),
+        board!("lamp"),
+        board!("ide"),
+        board!("pci"),
+    ]
 }
 
 fn life(board: &str, text: &str, lines: &str) -> Script {

@@ -83,8 +83,20 @@ bare-requires c κs = search needs
 returns-4 : tie.Need-returns-4
 returns-4 c = chosen-on _ _ _ (sym (c .before .before .before .before .before .before .before .before .before .before .before .is .ensures) ∙ c .before .before .before .before .before .before .before .before .before .before .if1 .left) (chosen-on _ _ _ (sym (c .before .before .before .before .before .before .before .before .is2 .ensures) ∙ c .before .before .before .before .before .before .before .if2 .left) (chosen-on _ _ _ (sym (c .before .before .before .before .before .is3 .ensures) ∙ c .before .before .before .before .if3 .left) (chosen-here _ _ _ (sym (c .before .before .is4 .ensures) ∙ c .before .if4 .taken) (c .bare .ensures))))
 
+slice-aggregate-is-5 : tie.Need-slice-aggregate-is-5
+slice-aggregate-is-5 c = search needs
+
+is-requires-5 : tie.Need-is-requires-5
+is-requires-5 c κs = search needs
+
+calibrated-of-requires : tie.Need-calibrated-of-requires
+calibrated-of-requires c κs = search needs
+
 returns-5 : tie.Need-returns-5
-returns-5 c = chosen-on _ _ _ (sym (c .before .before .before .before .before .before .before .before .before .before .is .ensures) ∙ c .before .before .before .before .before .before .before .before .before .if1 .left) (chosen-on _ _ _ (sym (c .before .before .before .before .before .before .before .is2 .ensures) ∙ c .before .before .before .before .before .before .if2 .left) (chosen-on _ _ _ (sym (c .before .before .before .before .is3 .ensures) ∙ c .before .before .before .if3 .left) (chosen-on _ _ _ (sym (c .before .is4 .ensures) ∙ c .if4 .left) chosen-none)))
+returns-5 c = chosen-on _ _ _ (sym (c .before .before .before .before .before .before .before .before .before .before .before .before .before .before .is .ensures) ∙ c .before .before .before .before .before .before .before .before .before .before .before .before .before .if1 .left) (chosen-on _ _ _ (sym (c .before .before .before .before .before .before .before .before .before .before .before .is2 .ensures) ∙ c .before .before .before .before .before .before .before .before .before .before .if2 .left) (chosen-on _ _ _ (sym (c .before .before .before .before .before .before .before .before .is3 .ensures) ∙ c .before .before .before .before .before .before .before .if3 .left) (chosen-on _ _ _ (sym (c .before .before .before .before .before .is4 .ensures) ∙ c .before .before .before .before .if4 .left) (chosen-here _ _ _ (sym (c .before .before .is5 .ensures) ∙ c .before .if5 .taken) (c .calibrated-of .ensures)))))
+
+returns-6 : tie.Need-returns-6
+returns-6 c = chosen-on _ _ _ (sym (c .before .before .before .before .before .before .before .before .before .before .before .before .before .is .ensures) ∙ c .before .before .before .before .before .before .before .before .before .before .before .before .if1 .left) (chosen-on _ _ _ (sym (c .before .before .before .before .before .before .before .before .before .before .is2 .ensures) ∙ c .before .before .before .before .before .before .before .before .before .if2 .left) (chosen-on _ _ _ (sym (c .before .before .before .before .before .before .before .is3 .ensures) ∙ c .before .before .before .before .before .before .if3 .left) (chosen-on _ _ _ (sym (c .before .before .before .before .is4 .ensures) ∙ c .before .before .before .if4 .left) (chosen-on _ _ _ (sym (c .before .is5 .ensures) ∙ c .if5 .left) chosen-none))))
 
 pub operation-of-spec : {M : Type 1} → statement M
 operation-of-spec =
@@ -113,4 +125,8 @@ operation-of-spec =
     is-requires-4
     bare-requires
     returns-4
-    returns-5)
+    slice-aggregate-is-5
+    is-requires-5
+    calibrated-of-requires
+    returns-5
+    returns-6)

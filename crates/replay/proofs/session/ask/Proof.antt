@@ -27,23 +27,23 @@ rest-requires c κs = search needs
 power-on-requires : tie.Need-power-on-requires
 power-on-requires c κs = search needs
 
-slice-aggregate-outcome-of : tie.Need-slice-aggregate-outcome-of
-slice-aggregate-outcome-of c = search needs
+slice-aggregate-told : tie.Need-slice-aggregate-told
+slice-aggregate-told c = search needs
 
-slice-relend-prefix-outcome-of : tie.Need-slice-relend-prefix-outcome-of
-slice-relend-prefix-outcome-of c = search needs
+slice-relend-prefix-told : tie.Need-slice-relend-prefix-told
+slice-relend-prefix-told c = search needs
 
-slice-aggregate-outcome-of-2 : tie.Need-slice-aggregate-outcome-of-2
-slice-aggregate-outcome-of-2 c = sym (length-take-le _ _ (c .before .before .before .before .before .before .lent .ensures .1))
+slice-aggregate-told-2 : tie.Need-slice-aggregate-told-2
+slice-aggregate-told-2 c = sym (length-take-le _ _ (c .before .before .before .before .before .before .lent .ensures .1))
 
-slice-relend-prefix-outcome-of-2 : tie.Need-slice-relend-prefix-outcome-of-2
-slice-relend-prefix-outcome-of-2 c = search needs
+slice-relend-prefix-told-2 : tie.Need-slice-relend-prefix-told-2
+slice-relend-prefix-told-2 c = search needs
 
-slice-aggregate-outcome-of-3 : tie.Need-slice-aggregate-outcome-of-3
-slice-aggregate-outcome-of-3 c = sym (length-take-le _ _ (c .before .before .before .before .before .lent2 .ensures .1))
+slice-aggregate-told-3 : tie.Need-slice-aggregate-told-3
+slice-aggregate-told-3 c = sym (length-take-le _ _ (c .before .before .before .before .before .lent2 .ensures .1))
 
-outcome-of-requires : tie.Need-outcome-of-requires
-outcome-of-requires c κs = search needs
+told-requires : tie.Need-told-requires
+told-requires c κs = search needs
 
 answered-requires : tie.Need-answered-requires
 answered-requires c κs = search needs
@@ -55,7 +55,7 @@ same-length-2 : tie.Need-same-length-2
 same-length-2 c = search needs
 
 returns : tie.Need-returns
-returns c = asks _ _ _ _ _ _ _ _ _ (asked-as _ _ _ _ _ _ _ _ _ _ _ (c .before .before .before .before .before .before .before .before .before .before .before .before .before .before .before .before .is-opening .ensures) (c .before .before .before .before .before .before .before .before .before .before .before .before .before .before .word .ensures .is) (c .before .before .before .before .before .before .before .before .before .before .before .before .word2 .ensures .is) (c .before .before .before .before .before .before .before .before .before .before .before .before .before .lent .ensures .0) (c .before .before .before .before .before .before .before .before .before .before .before .lent2 .ensures .0)) _ _ _ _ (rw (c .before .before .before .before .before .before .before .before .before .power-on .ensures, c .before .before .before .before .before .before .before .before .before .before .rest .ensures) at (c .before .before .before .before .before .outcome-of .ensures)) (c .answered .ensures)
+returns c = asks _ _ _ _ _ _ _ _ _ (asked-as _ _ _ _ _ _ _ _ _ _ _ (c .before .before .before .before .before .before .before .before .before .before .before .before .before .before .before .before .is-opening .ensures) (c .before .before .before .before .before .before .before .before .before .before .before .before .before .before .word .ensures .is) (c .before .before .before .before .before .before .before .before .before .before .before .before .word2 .ensures .is) (c .before .before .before .before .before .before .before .before .before .before .before .before .before .lent .ensures .0) (c .before .before .before .before .before .before .before .before .before .before .before .lent2 .ensures .0)) _ _ _ _ (rw (c .before .before .before .before .before .before .before .before .before .power-on .ensures, c .before .before .before .before .before .before .before .before .before .before .rest .ensures) at (c .before .before .before .before .before .told .ensures)) (c .answered .ensures)
 
 pub ask-spec : {M : Type 1} → statement M
 ask-spec =
@@ -68,12 +68,12 @@ ask-spec =
     lent-requires-2
     rest-requires
     power-on-requires
-    slice-aggregate-outcome-of
-    slice-relend-prefix-outcome-of
-    slice-aggregate-outcome-of-2
-    slice-relend-prefix-outcome-of-2
-    slice-aggregate-outcome-of-3
-    outcome-of-requires
+    slice-aggregate-told
+    slice-relend-prefix-told
+    slice-aggregate-told-2
+    slice-relend-prefix-told-2
+    slice-aggregate-told-3
+    told-requires
     answered-requires
     same-length
     same-length-2

@@ -1,4 +1,3 @@
--- `replay::session::is_opening` meets its contract. Assumes nothing.
 use Rattle.replay.specs.Sessions.{isOpening}
 use borrow.Author.Needs.{needs}
 use Rattle.replay.proofs.session.is_opening.Statement.{statement}
@@ -18,6 +17,9 @@ enum-told-4 c = search needs
 
 enum-told-5 : tie.Need-enum-told-5
 enum-told-5 c = search needs
+
+enum-told-6 : tie.Need-enum-told-6
+enum-told-6 c = search needs
 
 returns : tie.Need-returns
 unfolding isOpening
@@ -39,6 +41,10 @@ returns-5 : tie.Need-returns-5
 unfolding isOpening
 returns-5 c = rw (c .enum-told5 .given .1)
 
+returns-6 : tie.Need-returns-6
+unfolding isOpening
+returns-6 c = rw (c .enum-told6 .given .1)
+
 pub is-opening-spec : {M : Type 1} → statement M
 is-opening-spec =
     tie.close
@@ -48,8 +54,10 @@ is-opening-spec =
     enum-told-3
     enum-told-4
     enum-told-5
+    enum-told-6
     returns
     returns-2
     returns-3
     returns-4
-    returns-5)
+    returns-5
+    returns-6)

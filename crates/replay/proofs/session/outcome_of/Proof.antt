@@ -1,4 +1,3 @@
--- `replay::session::outcome_of` meets its contract. Assumes nothing.
 use mir.Syntax.{w64}
 use mir.Val.{SFits}
 use mir.Facts.{toZ-ofZ}
@@ -40,6 +39,12 @@ enum-told c = search needs
 abandon-requires : tie.Need-abandon-requires
 abandon-requires c κs = search needs
 
+enum-known-request-5 : tie.Need-enum-known-request-5
+enum-known-request-5 c = search needs
+
+begin-read-in-units-requires : tie.Need-begin-read-in-units-requires
+begin-read-in-units-requires c κs = search needs
+
 same-length : tie.Need-same-length
 same-length c = search needs
 
@@ -68,9 +73,7 @@ same-length-6 c = search needs
 
 returns-3 : tie.Need-returns-3
 unfolding requested
-returns-3 c =
-    let fits : SFits w64 (c .before .before .before .before .request3 .given .0 .1 .0) = record { sfits = c .before .before .before .known-told3 .given .1 .0 .1 } in
-    rw (c .before .before .before .before .request3 .given .1) (rw (toZ-ofZ {w = w64} fits) at (c .begin-write .ensures))
+returns-3 c = let fits : SFits w64 (c .before .before .before .before .request3 .given .0 .1 .0) = record { sfits = c .before .before .before .known-told3 .given .1 .0 .1 } in rw (c .before .before .before .before .request3 .given .1) (rw (toZ-ofZ {w = w64} fits) at (c .begin-write .ensures))
 
 same-length-7 : tie.Need-same-length-7
 same-length-7 c = search needs
@@ -92,6 +95,16 @@ returns-5 : tie.Need-returns-5
 unfolding requested
 returns-5 c = rw (c .before .before .before .before .before .enum-told .given .1) (c .before .before .abandon .ensures)
 
+same-length-11 : tie.Need-same-length-11
+same-length-11 c = search needs
+
+same-length-12 : tie.Need-same-length-12
+same-length-12 c = search needs
+
+returns-6 : tie.Need-returns-6
+unfolding requested
+returns-6 c = rw (c .before .before .before .before .request5 .given .1) (c .begin-read-in-units .ensures)
+
 pub outcome-of-spec : {M : Type 1} → statement M
 outcome-of-spec =
     tie.close
@@ -107,6 +120,8 @@ outcome-of-spec =
     confirm-requires
     enum-told
     abandon-requires
+    enum-known-request-5
+    begin-read-in-units-requires
     same-length
     same-length-2
     returns
@@ -121,4 +136,7 @@ outcome-of-spec =
     returns-4
     same-length-9
     same-length-10
-    returns-5)
+    returns-5
+    same-length-11
+    same-length-12
+    returns-6)

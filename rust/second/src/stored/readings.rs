@@ -1,0 +1,293 @@
+//! Records for the program `readings`: a calibration, a reading, and the result in units.
+
+use crate::generate::{reading, Random};
+use crate::units::Calibration;
+
+/// A calibration and a reading, and the line that the papers give for them.
+#[derive(Clone, Debug)]
+pub struct Reading {
+    pub name: String,
+    pub calibration: Calibration,
+    pub reading: u32,
+    pub expected: Option<String>,
+}
+
+/// All stored records: those that are settled, and generated ones.
+pub fn cases() -> Vec<Reading> {
+    let groups = [
+        EXACT,
+        ZEROS,
+        SUBNORMALS,
+        PRODUCT_TIES,
+        SUM_TIES,
+        GREATEST,
+        NOT_FINITE,
+        ONCE,
+    ];
+    let settled = groups.into_iter().flat_map(str::lines).map(settled);
+    let mut random = Random::new(20);
+    let generated = (0..1000).map(|number| generated(&mut random, number));
+    settled.chain(generated).collect()
+}
+
+/// `NAME GAIN OFFSET READING -> LINE`.
+fn settled(line: &str) -> Reading {
+    let (case, expected) = line.split_once(" -> ").expect("an answer");
+    let [name, gain, offset, reading] = case.split(' ').collect::<Vec<_>>()[..] else {
+        panic!("{line}");
+    };
+    let pattern = |digits| u64::from_str_radix(digits, 16).expect("a pattern");
+    Reading {
+        name: format!("reading-{name}"),
+        calibration: Calibration {
+            gain: pattern(gain),
+            offset: pattern(offset),
+        },
+        reading: reading.parse().expect("a reading"),
+        expected: Some(expected.to_string()),
+    }
+}
+
+fn generated(random: &mut Random, number: usize) -> Reading {
+    let (calibration, reading) = reading(random);
+    Reading {
+        name: format!("reading-generated-{number}"),
+        calibration,
+        reading,
+        expected: None,
+    }
+}
+
+/// Readings at both ends and in the middle are taken exactly, as unsigned numbers.
+const EXACT: &str = "\
+gain-one-offset-zero-0 3FF0000000000000 0000000000000000 0 -> 0000000000000000
+gain-one-offset-zero-1 3FF0000000000000 0000000000000000 1 -> 3FF0000000000000
+gain-one-offset-zero-16777217 3FF0000000000000 0000000000000000 16777217 -> 4170000010000000
+gain-one-offset-zero-2147483647 3FF0000000000000 0000000000000000 2147483647 -> 41DFFFFFFFC00000
+gain-one-offset-zero-2147483648 3FF0000000000000 0000000000000000 2147483648 -> 41E0000000000000
+gain-one-offset-zero-4294967295 3FF0000000000000 0000000000000000 4294967295 -> 41EFFFFFFFE00000
+gain-minus-one-0 BFF0000000000000 0000000000000000 0 -> 0000000000000000
+gain-zero-gives-the-offset-0 0000000000000000 3FB999999999999A 0 -> 3FB999999999999A
+gain-a-tenth-0 3FB999999999999A C044000000000000 0 -> C044000000000000
+gain-minus-one-1 BFF0000000000000 0000000000000000 1 -> BFF0000000000000
+gain-zero-gives-the-offset-1 0000000000000000 3FB999999999999A 1 -> 3FB999999999999A
+gain-a-tenth-1 3FB999999999999A C044000000000000 1 -> C043F33333333333
+gain-minus-one-2147483648 BFF0000000000000 0000000000000000 2147483648 -> C1E0000000000000
+gain-zero-gives-the-offset-2147483648 0000000000000000 3FB999999999999A 2147483648 -> 3FB999999999999A
+gain-a-tenth-2147483648 3FB999999999999A C044000000000000 2147483648 -> 41A999994999999A
+gain-minus-one-4294967295 BFF0000000000000 0000000000000000 4294967295 -> C1EFFFFFFFE00000
+gain-zero-gives-the-offset-4294967295 0000000000000000 3FB999999999999A 4294967295 -> 3FB999999999999A
+gain-a-tenth-4294967295 3FB999999999999A C044000000000000 4294967295 -> 41B9999971800000
+the-gain-is-no-offset 4000000000000000 3FF0000000000000 3 -> 401C000000000000
+bytes-low-first 3FF0123456789ABC C00FEDCBA9876543 16909060 -> 41703288F62FC962";
+
+/// The signs of zeros are IEEE's.
+const ZEROS: &str = "\
+zero-gain-0-offset-0-reading-0 0000000000000000 0000000000000000 0 -> 0000000000000000
+zero-gain-0-offset-0-reading-1 0000000000000000 0000000000000000 1 -> 0000000000000000
+zero-gain-0-offset-minus-0-reading-0 0000000000000000 8000000000000000 0 -> 0000000000000000
+zero-gain-0-offset-minus-0-reading-1 0000000000000000 8000000000000000 1 -> 0000000000000000
+zero-gain-minus-0-offset-0-reading-0 8000000000000000 0000000000000000 0 -> 0000000000000000
+zero-gain-minus-0-offset-0-reading-1 8000000000000000 0000000000000000 1 -> 0000000000000000
+zero-gain-minus-0-offset-minus-0-reading-0 8000000000000000 8000000000000000 0 -> 8000000000000000
+zero-gain-minus-0-offset-minus-0-reading-1 8000000000000000 8000000000000000 1 -> 8000000000000000
+zero-gain-1-offset-0-reading-0 3FF0000000000000 0000000000000000 0 -> 0000000000000000
+zero-gain-1-offset-0-reading-1 3FF0000000000000 0000000000000000 1 -> 3FF0000000000000
+zero-gain-1-offset-minus-0-reading-0 3FF0000000000000 8000000000000000 0 -> 0000000000000000
+zero-gain-1-offset-minus-0-reading-1 3FF0000000000000 8000000000000000 1 -> 3FF0000000000000
+zero-gain-minus-1-offset-0-reading-0 BFF0000000000000 0000000000000000 0 -> 0000000000000000
+zero-gain-minus-1-offset-0-reading-1 BFF0000000000000 0000000000000000 1 -> BFF0000000000000
+zero-gain-minus-1-offset-minus-0-reading-0 BFF0000000000000 8000000000000000 0 -> 8000000000000000
+zero-gain-minus-1-offset-minus-0-reading-1 BFF0000000000000 8000000000000000 1 -> BFF0000000000000
+cancelled-to-zero 3FF0000000000000 C014000000000000 5 -> 0000000000000000
+cancelled-to-zero-from-below BFF0000000000000 4014000000000000 5 -> 0000000000000000
+cancelled-subnormals 0000000000000001 8000000000000007 7 -> 0000000000000000";
+
+/// Around the least doubles. There every product and every sum is exact.
+const SUBNORMALS: &str = "\
+least-subnormal 0000000000000001 0000000000000000 1 -> 0000000000000001
+least-subnormal-negative 8000000000000001 0000000000000000 1 -> 8000000000000001
+least-subnormal-times-zero 0000000000000001 0000000000000000 0 -> 0000000000000000
+least-subnormal-times-zero-negative 8000000000000001 8000000000000000 0 -> 8000000000000000
+least-subnormal-times-2-31 0000000000000001 0000000000000000 2147483648 -> 0000000080000000
+least-subnormal-times-the-greatest-reading 0000000000000001 0000000000000000 4294967295 -> 00000000FFFFFFFF
+greatest-subnormal 000FFFFFFFFFFFFF 0000000000000000 1 -> 000FFFFFFFFFFFFF
+greatest-subnormal-doubled-is-normal 000FFFFFFFFFFFFF 0000000000000000 2 -> 001FFFFFFFFFFFFE
+greatest-subnormal-times-the-greatest-reading 000FFFFFFFFFFFFF 0000000000000000 4294967295 -> 020FFFFFFFDFFFFE
+greatest-subnormal-and-the-least-is-normal 000FFFFFFFFFFFFF 0000000000000001 1 -> 0010000000000000
+least-normal 0010000000000000 0000000000000000 1 -> 0010000000000000
+least-normal-less-the-least-subnormal 0010000000000000 8000000000000001 1 -> 000FFFFFFFFFFFFF
+subnormal-offset-alone 0000000000000000 0000000000000001 4294967295 -> 0000000000000001
+subnormal-offset-lost 3FF0000000000000 0000000000000001 1 -> 3FF0000000000000
+subnormal-offset-lost-below 3FF0000000000000 8000000000000001 1 -> 3FF0000000000000
+subnormal-sum 0000000000000003 800000000000000A 3 -> 8000000000000001
+half-the-least-normal-twice 0008000000000000 0008000000000000 1 -> 0010000000000000";
+
+/// Products half-way between two doubles go to the even one; a bit less or more in the gain, to the nearer one.
+const PRODUCT_TIES: &str = "\
+product-tie-down-3 3FF0000000000003 0000000000000000 3 -> 4008000000000004
+product-tie-down-and-a-bit-less-3 3FF0000000000002 0000000000000000 3 -> 4008000000000003
+product-tie-down-and-a-bit-more-3 3FF0000000000004 0000000000000000 3 -> 4008000000000006
+product-tie-down-negative-3 BF70000000000003 8000000000000000 3 -> BF88000000000004
+product-tie-up-3 3FF0000000000001 0000000000000000 3 -> 4008000000000002
+product-tie-up-and-a-bit-less-3 3FF0000000000000 0000000000000000 3 -> 4008000000000000
+product-tie-up-and-a-bit-more-3 3FF0000000000002 0000000000000000 3 -> 4008000000000003
+product-tie-up-negative-3 BF70000000000001 8000000000000000 3 -> BF88000000000002
+product-tie-down-5 3FF0000000000002 0000000000000000 5 -> 4014000000000002
+product-tie-down-and-a-bit-less-5 3FF0000000000001 0000000000000000 5 -> 4014000000000001
+product-tie-down-and-a-bit-more-5 3FF0000000000003 0000000000000000 5 -> 4014000000000004
+product-tie-down-negative-5 BF70000000000002 8000000000000000 5 -> BF94000000000002
+product-tie-up-5 3FF0000000000006 0000000000000000 5 -> 4014000000000008
+product-tie-up-and-a-bit-less-5 3FF0000000000005 0000000000000000 5 -> 4014000000000006
+product-tie-up-and-a-bit-more-5 3FF0000000000007 0000000000000000 5 -> 4014000000000009
+product-tie-up-negative-5 BF70000000000006 8000000000000000 5 -> BF94000000000008
+product-tie-down-7 3FF0000000000006 0000000000000000 7 -> 401C00000000000A
+product-tie-down-and-a-bit-less-7 3FF0000000000005 0000000000000000 7 -> 401C000000000009
+product-tie-down-and-a-bit-more-7 3FF0000000000007 0000000000000000 7 -> 401C00000000000C
+product-tie-down-negative-7 BF70000000000006 8000000000000000 7 -> BF9C00000000000A
+product-tie-up-7 3FF0000000000002 0000000000000000 7 -> 401C000000000004
+product-tie-up-and-a-bit-less-7 3FF0000000000001 0000000000000000 7 -> 401C000000000002
+product-tie-up-and-a-bit-more-7 3FF0000000000003 0000000000000000 7 -> 401C000000000005
+product-tie-up-negative-7 BF70000000000002 8000000000000000 7 -> BF9C000000000004
+product-tie-down-2147483647 3FF00000C0000000 0000000000000000 2147483647 -> 41E00000BFDFFFFE
+product-tie-down-and-a-bit-less-2147483647 3FF00000BFFFFFFF 0000000000000000 2147483647 -> 41E00000BFDFFFFE
+product-tie-down-and-a-bit-more-2147483647 3FF00000C0000001 0000000000000000 2147483647 -> 41E00000BFDFFFFF
+product-tie-down-negative-2147483647 BF700000C0000000 8000000000000000 2147483647 -> C1600000BFDFFFFE
+product-tie-up-2147483647 3FF0000040000000 0000000000000000 2147483647 -> 41E000003FE00000
+product-tie-up-and-a-bit-less-2147483647 3FF000003FFFFFFF 0000000000000000 2147483647 -> 41E000003FDFFFFF
+product-tie-up-and-a-bit-more-2147483647 3FF0000040000001 0000000000000000 2147483647 -> 41E000003FE00000
+product-tie-up-negative-2147483647 BF70000040000000 8000000000000000 2147483647 -> C16000003FE00000
+product-tie-down-4294967295 3FF0000180000000 0000000000000000 4294967295 -> 41F000017FEFFFFE
+product-tie-down-and-a-bit-less-4294967295 3FF000017FFFFFFF 0000000000000000 4294967295 -> 41F000017FEFFFFE
+product-tie-down-and-a-bit-more-4294967295 3FF0000180000001 0000000000000000 4294967295 -> 41F000017FEFFFFF
+product-tie-down-negative-4294967295 BF70000180000000 8000000000000000 4294967295 -> C17000017FEFFFFE
+product-tie-up-4294967295 3FF0000080000000 0000000000000000 4294967295 -> 41F000007FF00000
+product-tie-up-and-a-bit-less-4294967295 3FF000007FFFFFFF 0000000000000000 4294967295 -> 41F000007FEFFFFF
+product-tie-up-and-a-bit-more-4294967295 3FF0000080000001 0000000000000000 4294967295 -> 41F000007FF00000
+product-tie-up-negative-4294967295 BF70000080000000 8000000000000000 4294967295 -> C17000007FF00000";
+
+/// So do sums.
+const SUM_TIES: &str = "\
+sum-tie-2-53-and-one 4340000000000000 3FF0000000000000 1 -> 4340000000000000
+sum-tie-minus-2-53-and-one C340000000000000 3FF0000000000000 1 -> C33FFFFFFFFFFFFF
+sum-tie-2-53-and-one-a-bit-more 4340000000000000 3FF0000000000001 1 -> 4340000000000001
+sum-tie-2-53-and-one-a-bit-less 4340000000000000 3FEFFFFFFFFFFFFF 1 -> 4340000000000000
+sum-tie-2-53-and-three 4340000000000000 4008000000000000 1 -> 4340000000000002
+sum-tie-minus-2-53-and-three C340000000000000 4008000000000000 1 -> C33FFFFFFFFFFFFD
+sum-tie-2-53-and-three-a-bit-more 4340000000000000 4008000000000001 1 -> 4340000000000002
+sum-tie-2-53-and-three-a-bit-less 4340000000000000 4007FFFFFFFFFFFF 1 -> 4340000000000001
+sum-tie-2-53-and-minus-one 4340000000000000 BFF0000000000000 1 -> 433FFFFFFFFFFFFF
+sum-tie-minus-2-53-and-minus-one C340000000000000 BFF0000000000000 1 -> C340000000000000
+sum-tie-2-53-and-minus-one-a-bit-more 4340000000000000 BFF0000000000001 1 -> 433FFFFFFFFFFFFF
+sum-tie-2-53-and-minus-one-a-bit-less 4340000000000000 BFEFFFFFFFFFFFFF 1 -> 433FFFFFFFFFFFFF
+sum-tie-2-53-and-minus-three 4340000000000000 C008000000000000 1 -> 433FFFFFFFFFFFFD
+sum-tie-minus-2-53-and-minus-three C340000000000000 C008000000000000 1 -> C340000000000002
+sum-tie-2-53-and-minus-three-a-bit-more 4340000000000000 C008000000000001 1 -> 433FFFFFFFFFFFFD
+sum-tie-2-53-and-minus-three-a-bit-less 4340000000000000 C007FFFFFFFFFFFF 1 -> 433FFFFFFFFFFFFD
+sum-tie-by-the-reading-down 3FF0000000000000 4340000000000000 1 -> 4340000000000000
+sum-tie-by-the-reading-up 3FF0000000000000 4340000000000000 3 -> 4340000000000002
+sum-no-tie-by-the-reading 3FF0000000000000 4340000000000000 2 -> 4340000000000001
+sum-tie-of-the-greatest-reading 3FF0000000000000 4340000000000001 4294967295 -> 4340000080000000
+sum-tie-to-the-next-binade 3FF0000000000000 434FFFFFFFFFFFFF 1 -> 4350000000000000
+sum-into-the-next-binade 3FE0000000000000 433FFFFFFFFFFFFF 1 -> 4340000000000000
+sum-tie-half-ulp-of-one 3CA0000000000000 3FF0000000000000 1 -> 3FF0000000000000
+sum-tie-half-ulp-of-one-and-a-bit 3CA0000000000001 3FF0000000000000 1 -> 3FF0000000000001
+sum-tie-odd-half-ulps-of-one 3CA0000000000000 3FF0000000000000 3 -> 3FF0000000000002
+sum-tie-below-one BC90000000000000 3FF0000000000000 1 -> 3FF0000000000000
+sum-tie-below-one-odd BC90000000000000 3FF0000000000000 3 -> 3FEFFFFFFFFFFFFE";
+
+/// Around the greatest double, from both sides, by the product and by the sum.
+const GREATEST: &str = "\
+greatest-double 7FEFFFFFFFFFFFFF 0000000000000000 1 -> 7FEFFFFFFFFFFFFF
+greatest-double-negative FFEFFFFFFFFFFFFF 0000000000000000 1 -> FFEFFFFFFFFFFFFF
+greatest-double-times-zero 7FEFFFFFFFFFFFFF 7FEFFFFFFFFFFFFF 0 -> 7FEFFFFFFFFFFFFF
+product-overflows 7FEFFFFFFFFFFFFF 0000000000000000 2 -> refused 54
+product-overflows-below FFEFFFFFFFFFFFFF 0000000000000000 2 -> refused 54
+product-overflows-by-the-greatest-reading 7FEFFFFFFFFFFFFF 0000000000000000 4294967295 -> refused 54
+product-2-1023 7FE0000000000000 0000000000000000 1 -> 7FE0000000000000
+product-2-1024 7FE0000000000000 0000000000000000 2 -> refused 54
+product-2-1023-by-2-31 7DF0000000000000 0000000000000000 2147483648 -> 7FE0000000000000
+product-2-1024-by-2-31 7E00000000000000 0000000000000000 2147483648 -> refused 54
+product-half-way-past-the-greatest 7FD5555555555555 0000000000000000 3 -> refused 54
+product-just-not-half-way-past-the-greatest 7FD5555555555554 0000000000000000 3 -> 7FEFFFFFFFFFFFFE
+product-half-way-past-the-greatest-negative FFD5555555555555 0000000000000000 3 -> refused 54
+greatest-gain-for-the-greatest-reading 7DF00000000FFFFF 0000000000000000 4294967295 -> 7FEFFFFFFFFFFFFE
+a-gain-too-great-for-the-greatest-reading 7DF0000000100000 0000000000000000 4294967295 -> refused 54
+greatest-gain-for-2-31 7DFFFFFFFFFFFFFF 0000000000000000 2147483648 -> 7FEFFFFFFFFFFFFF
+a-gain-too-great-for-2-31 7E00000000000000 0000000000000000 2147483648 -> refused 54
+sum-overflows 7FEFFFFFFFFFFFFF 7FEFFFFFFFFFFFFF 1 -> refused 54
+sum-overflows-below FFEFFFFFFFFFFFFF FFEFFFFFFFFFFFFF 1 -> refused 54
+sum-half-way-past-the-greatest 7FEFFFFFFFFFFFFF 7C90000000000000 1 -> refused 54
+sum-just-not-half-way-past-the-greatest 7FEFFFFFFFFFFFFF 7C8FFFFFFFFFFFFF 1 -> 7FEFFFFFFFFFFFFF
+sum-half-way-past-the-least FFEFFFFFFFFFFFFF FC90000000000000 1 -> refused 54
+sum-just-not-half-way-past-the-least FFEFFFFFFFFFFFFF FC8FFFFFFFFFFFFF 1 -> FFEFFFFFFFFFFFFF
+sum-half-way-by-a-product 7C90000000000000 7FEFFFFFFFFFFFFF 1 -> refused 54
+sum-just-not-half-way-by-a-product 7C8FFFFFFFFFFFFF 7FEFFFFFFFFFFFFF 1 -> 7FEFFFFFFFFFFFFF
+greatest-less-greatest 7FEFFFFFFFFFFFFF FFEFFFFFFFFFFFFF 1 -> 0000000000000000";
+
+/// Every kind of pattern that is not finite, as gain and as offset; a reading of 0 makes nothing good.
+const NOT_FINITE: &str = "\
+gain-infinity-reading-0 7FF0000000000000 3FF0000000000000 0 -> refused 53
+offset-infinity-reading-0 3FF0000000000000 7FF0000000000000 0 -> refused 53
+gain-infinity-reading-1 7FF0000000000000 3FF0000000000000 1 -> refused 53
+offset-infinity-reading-1 3FF0000000000000 7FF0000000000000 1 -> refused 53
+both-infinity 7FF0000000000000 7FF0000000000000 4294967295 -> refused 53
+gain-zero-offset-infinity 0000000000000000 7FF0000000000000 0 -> refused 53
+gain-minus-infinity-reading-0 FFF0000000000000 3FF0000000000000 0 -> refused 53
+offset-minus-infinity-reading-0 3FF0000000000000 FFF0000000000000 0 -> refused 53
+gain-minus-infinity-reading-1 FFF0000000000000 3FF0000000000000 1 -> refused 53
+offset-minus-infinity-reading-1 3FF0000000000000 FFF0000000000000 1 -> refused 53
+both-minus-infinity FFF0000000000000 FFF0000000000000 4294967295 -> refused 53
+gain-zero-offset-minus-infinity 0000000000000000 FFF0000000000000 0 -> refused 53
+gain-quiet-nan-reading-0 7FF8000000000000 3FF0000000000000 0 -> refused 53
+offset-quiet-nan-reading-0 3FF0000000000000 7FF8000000000000 0 -> refused 53
+gain-quiet-nan-reading-1 7FF8000000000000 3FF0000000000000 1 -> refused 53
+offset-quiet-nan-reading-1 3FF0000000000000 7FF8000000000000 1 -> refused 53
+both-quiet-nan 7FF8000000000000 7FF8000000000000 4294967295 -> refused 53
+gain-zero-offset-quiet-nan 0000000000000000 7FF8000000000000 0 -> refused 53
+gain-negative-quiet-nan-reading-0 FFF8000000000000 3FF0000000000000 0 -> refused 53
+offset-negative-quiet-nan-reading-0 3FF0000000000000 FFF8000000000000 0 -> refused 53
+gain-negative-quiet-nan-reading-1 FFF8000000000000 3FF0000000000000 1 -> refused 53
+offset-negative-quiet-nan-reading-1 3FF0000000000000 FFF8000000000000 1 -> refused 53
+both-negative-quiet-nan FFF8000000000000 FFF8000000000000 4294967295 -> refused 53
+gain-zero-offset-negative-quiet-nan 0000000000000000 FFF8000000000000 0 -> refused 53
+gain-signalling-nan-reading-0 7FF0000000000001 3FF0000000000000 0 -> refused 53
+offset-signalling-nan-reading-0 3FF0000000000000 7FF0000000000001 0 -> refused 53
+gain-signalling-nan-reading-1 7FF0000000000001 3FF0000000000000 1 -> refused 53
+offset-signalling-nan-reading-1 3FF0000000000000 7FF0000000000001 1 -> refused 53
+both-signalling-nan 7FF0000000000001 7FF0000000000001 4294967295 -> refused 53
+gain-zero-offset-signalling-nan 0000000000000000 7FF0000000000001 0 -> refused 53
+gain-greatest-signalling-nan-reading-0 7FF7FFFFFFFFFFFF 3FF0000000000000 0 -> refused 53
+offset-greatest-signalling-nan-reading-0 3FF0000000000000 7FF7FFFFFFFFFFFF 0 -> refused 53
+gain-greatest-signalling-nan-reading-1 7FF7FFFFFFFFFFFF 3FF0000000000000 1 -> refused 53
+offset-greatest-signalling-nan-reading-1 3FF0000000000000 7FF7FFFFFFFFFFFF 1 -> refused 53
+both-greatest-signalling-nan 7FF7FFFFFFFFFFFF 7FF7FFFFFFFFFFFF 4294967295 -> refused 53
+gain-zero-offset-greatest-signalling-nan 0000000000000000 7FF7FFFFFFFFFFFF 0 -> refused 53
+gain-all-ones-reading-0 FFFFFFFFFFFFFFFF 3FF0000000000000 0 -> refused 53
+offset-all-ones-reading-0 3FF0000000000000 FFFFFFFFFFFFFFFF 0 -> refused 53
+gain-all-ones-reading-1 FFFFFFFFFFFFFFFF 3FF0000000000000 1 -> refused 53
+offset-all-ones-reading-1 3FF0000000000000 FFFFFFFFFFFFFFFF 1 -> refused 53
+both-all-ones FFFFFFFFFFFFFFFF FFFFFFFFFFFFFFFF 4294967295 -> refused 53
+gain-zero-offset-all-ones 0000000000000000 FFFFFFFFFFFFFFFF 0 -> refused 53
+gain-greatest-nan-reading-0 7FFFFFFFFFFFFFFF 3FF0000000000000 0 -> refused 53
+offset-greatest-nan-reading-0 3FF0000000000000 7FFFFFFFFFFFFFFF 0 -> refused 53
+gain-greatest-nan-reading-1 7FFFFFFFFFFFFFFF 3FF0000000000000 1 -> refused 53
+offset-greatest-nan-reading-1 3FF0000000000000 7FFFFFFFFFFFFFFF 1 -> refused 53
+both-greatest-nan 7FFFFFFFFFFFFFFF 7FFFFFFFFFFFFFFF 4294967295 -> refused 53
+gain-zero-offset-greatest-nan 0000000000000000 7FFFFFFFFFFFFFFF 0 -> refused 53
+both-infinite-and-unlike 7FF0000000000000 FFF0000000000000 1 -> refused 53
+53-before-54 7FEFFFFFFFFFFFFF 7FF0000000000000 2 -> refused 53
+greatest-finite-patterns-reading-0 7FEFFFFFFFFFFFFF FFEFFFFFFFFFFFFF 0 -> FFEFFFFFFFFFFFFF
+least-finite-patterns-reading-0 FFEFFFFFFFFFFFFF FFEFFFFFFFFFFFFF 0 -> FFEFFFFFFFFFFFFF";
+
+/// One rounding, as a fused operation has it, would give another answer; or a finite one, where the product passes the
+/// greatest.
+const ONCE: &str = "\
+product-overflows-and-the-offset-would-bring-it-back 7FEFFFFFFFFFFFFF FFEFFFFFFFFFFFFF 2 -> refused 54
+product-overflows-below-and-the-offset-would-bring-it-back FFEFFFFFFFFFFFFF 7FEFFFFFFFFFFFFF 2 -> refused 54
+fused-would-differ-ten-tenths-less-one 3FB999999999999A BFF0000000000000 10 -> 0000000000000000
+fused-would-differ-three-tenths 3FB999999999999A BFD3333333333333 3 -> 3C90000000000000
+rounding-once-would-differ-1 3FE1FE1582A4429B 41E3E12DA1344540 4294967295 -> 41F2EFA191E344E2
+rounding-once-would-differ-2 3FE6EE7D75E0A952 C047769CC36F6AAF 298 -> 4064D3F6DA5BAA6D
+rounding-once-would-differ-3 3FF13CBB1B6FF03D 4015C3B236FB61E2 10 -> 403036E17EE4CE9E
+rounding-once-would-differ-4 3FFD3A8DF5B17509 C01C06EDE8DEEF92 10 -> 402685BA7EAE5A83";
