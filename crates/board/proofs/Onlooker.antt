@@ -10,8 +10,9 @@ use Rattle.tables.specs.View.{Tables}
 use Rattle.station.specs.declared.Answer.{Answer}
 use Rattle.station.specs.declared.Answer.the-variants.{Refused, Stopped, Opened, Offer as Offered, Done, Abandoned as Ended}
 use borrow.Author.Tests.{not-true}
-use Rattle.board.specs.Board.{Cells, Event, Finished, Abandoned, Due, Gives, HalfWritten, mustRead, Asked, Nothing, ToRead, ToWrite, takenOn, closed, noted, World, Call, BeginRead, BeginWrite, Confirm, Abandon, step, after}
+use Rattle.board.specs.Board.{Cells, Event, Finished, Abandoned, Due, Gives, HalfWritten, mustRead, Asked, Nothing, ToRead, ToWrite, takenOn, closed, noted, World, Call, BeginRead, BeginWrite, Confirm, Abandon, Reopen, step, after}
 use Rattle.board.specs.Stops.{lastGiven, isHalf, isBeingWritten, Settled, begins, noneBegins}
+use Rattle.board.proofs.Reopens.{reopen-stays}
 use Rattle.logic.proofs.Tests.{both}
 
 abbrev IsHalf : Due → Type 0
@@ -122,6 +123,10 @@ module _ (sound : Tables → Bool) (t : Tables) (power : Cells) where
         };
         notes = notes;
       }
+  step-settled (Reopen bytes) w v before other = rw (reopen-stays sound t w bytes) (record {
+    settled = record { whole = before .whole; at-rest = before .at-rest };
+    notes = same t power v (w .events);
+  })
 
   pub after-settled : (calls : List Call) (w : World) (v : ℕ) → Settled w v → noneBegins calls v ≡ true → StillSettled w (after sound t calls w) v
   unfolding after noneBegins

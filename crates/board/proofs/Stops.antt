@@ -28,13 +28,14 @@ use Rattle.station.proofs.Cases.{getD-among}
 use Rattle.station.proofs.ByteLaws.{byte-own}
 use Rattle.station.proofs.Registers.{same-size, same-place}
 use Rattle.station.proofs.Underway.{writing-allowed}
-use Rattle.board.specs.Board.{Cells, putAt, reached, isWriting, toBeSet, Due, Gives, mustRead, bitsIn, Asked, ToWrite, World, Call, BeginRead, BeginWrite, Confirm, Abandon, perform, step, after}
+use Rattle.board.specs.Board.{Cells, putAt, reached, isWriting, toBeSet, Due, Gives, mustRead, bitsIn, Asked, ToWrite, World, Call, BeginRead, BeginWrite, Confirm, Abandon, Reopen, perform, step, after}
 use Rattle.board.specs.Demand.{Opening, powerOn, worldAfter, dueAfter}
 use Rattle.board.specs.Stops.{lastGiven, isBeingWritten, Settled, noneBegins, Spared, AtWork, leftBy, listed, readBack, midWrite, setSoFar, wroteOver, mixed, PowerLost}
 use Rattle.board.proofs.Ledger.{at}
 use Rattle.board.proofs.BoardLaws.{put-other}
 use Rattle.board.proofs.Moves.{isOpen}
 use Rattle.board.proofs.Invariant.{opensOf}
+use Rattle.board.proofs.Reopens.{reopen-stays}
 use Rattle.board.proofs.Steps.{Linked, InvW, step-keeps, after-keeps, reach-write}
 use Rattle.board.proofs.Onlooker.{half-is, step-settled, after-settled}
 use Rattle.board.proofs.World.{ok, rules, world-holds}
@@ -62,6 +63,7 @@ module _ (t : Tables) where
   elsewhere-stays (Confirm any) w r away = perform-elsewhere (w .offer) (w .cells) r away
   elsewhere-stays (Abandon true) w r away = perform-elsewhere (w .offer) (w .cells) r away
   elsewhere-stays (Abandon false) w r away = refl
+  elsewhere-stays (Reopen power) w r away = ap (λ (u : World). u .cells r) (reopen-stays sound t w power)
 
 abbrev theRegister : Option ℕ → ℕ
 theRegister none = 0

@@ -17,7 +17,7 @@ use Rattle.bits.specs.Bits.{bit, numberOf}
 use Rattle.bits.specs.Values.{inRange, encode, decode}
 use Rattle.station.specs.declared.Answer.the-variants.{Opened}
 use Rattle.station.specs.Calls.{State, opening, isLong, keptOf, stepsOf, writtenByte}
-use Rattle.board.specs.Board.{Cells, Event, Finished, Abandoned, Asked, Nothing, ToRead, ToWrite, Gives, mustRead, bitsIn, World, Call, BeginRead, BeginWrite, Confirm, Abandon, toBeSet, perform, step, after, confirms}
+use Rattle.board.specs.Board.{Cells, Event, Finished, Abandoned, Asked, Nothing, ToRead, ToWrite, Gives, mustRead, bitsIn, World, Call, BeginRead, BeginWrite, Confirm, Abandon, Reopen, toBeSet, perform, step, after, confirms}
 use Rattle.board.specs.Demand.{Opening, powerOn, worldAfter, dueAfter}
 
 -- ── what the onlooker knows of a variable ──
@@ -51,6 +51,7 @@ begins (BeginRead u) v = false
 begins (BeginWrite u z) v = eqb v u
 begins (Confirm any) v = false
 begins (Abandon performed) v = false
+begins (Reopen power) v = false
 
 unfoldable pub noneBegins : List Call → ℕ → Bool
 noneBegins [] v = true
