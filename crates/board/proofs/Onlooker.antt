@@ -72,7 +72,7 @@ module _ (t : Tables) (power : Cells) where
   noted-same Ended (ToRead u) es v rest = same v es
   noted-same Ended (ToWrite u z) es v rest = other-abandoned v u es rest
 
-closed-rests : (a : Answer) (asked : Asked) (v : ℕ) → isBeingWritten asked v ≡ false → isBeingWritten (closed a asked) v ≡ false
+pub closed-rests : (a : Answer) (asked : Asked) (v : ℕ) → isBeingWritten asked v ≡ false → isBeingWritten (closed a asked) v ≡ false
 closed-rests (Refused n) asked v rest = rest
 closed-rests (Stopped n r) asked v rest = refl
 closed-rests Opened asked v rest = rest
@@ -80,7 +80,7 @@ closed-rests (Offered a) asked v rest = rest
 closed-rests (Done y n) asked v rest = refl
 closed-rests Ended asked v rest = refl
 
-taken-rests : (a : Answer) (asked new : Asked) (v : ℕ) → isBeingWritten asked v ≡ false → isBeingWritten new v ≡ false → isBeingWritten (takenOn a asked new) v ≡ false
+pub taken-rests : (a : Answer) (asked new : Asked) (v : ℕ) → isBeingWritten asked v ≡ false → isBeingWritten new v ≡ false → isBeingWritten (takenOn a asked new) v ≡ false
 taken-rests (Refused n) asked new v old-rests new-rests = old-rests
 taken-rests (Stopped n r) asked new v old-rests new-rests = old-rests
 taken-rests Opened asked new v old-rests new-rests = old-rests

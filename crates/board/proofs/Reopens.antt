@@ -5,7 +5,7 @@ use mathlib.Core.Path.{_≡_, refl}
 use mathlib.Core.Bool.{Bool}
 use mathlib.Core.List.{List}
 use Rattle.tables.specs.View.{Tables}
-use Rattle.station.specs.Calls.{Outcome, openingTests, opening}
+use Rattle.station.specs.Calls.{Outcome, openingTests}
 use Rattle.station.proofs.Refusals.{unless-cases}
 use Rattle.board.specs.Board.{World, Reopen, answered, begun, unlessOpened, step}
 

@@ -9,7 +9,7 @@ use mathlib.Core.Option.{Option, none, some}
 use lib.Dec.{eqb}
 use Rattle.tables.specs.View.{Tables, sound}
 use Rattle.station.specs.declared.Access.{Access}
-use Rattle.station.specs.Calls.{Outcome, confirm, abandon}
+use Rattle.station.specs.Calls.{confirm, abandon}
 use Rattle.board.specs.Board.{Cells, put, putAt, cellAt, reached, isWriting, perform, brought, World, Confirm, Abandon, moved, step}
 use Rattle.board.specs.Demand.{Opening, worldAfter}
 use Rattle.board.specs.Resumes.{foundAgain, goesOn, givesUp, Resumes}

@@ -6,14 +6,9 @@ use mathlib.Core.Path.{_≡_}
 use mathlib.Core.Bool.{Bool, _||_}
 use mathlib.Core.List.{List}
 use Rattle.tables.specs.View.{Tables, sound}
-use Rattle.board.specs.Board.{Cells, World, Call, Confirm, Abandon, step}
+use Rattle.board.specs.Board.{withCells, World, Call, Confirm, Abandon, step}
 use Rattle.board.specs.Demand.{Opening, worldAfter}
 use Rattle.board.specs.Stops.{leftBy}
-
--- this world, with other cells
-abbrev pub withCells : World → Cells → World
-withCells w cells =
-    record { state = w .state; cells = cells; offer = w .offer; asked = w .asked; events = w .events; answer = w .answer }
 
 -- the world in which the station finds itself again: what it kept, and a board on which the access on offer was
 -- performed, or not; it does not know which
