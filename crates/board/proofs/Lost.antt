@@ -115,12 +115,26 @@ module _ (t : Tables) where
       after-alike calls (step sound t call w) (step sound t call u)
       (subst (λ (x : World). SeenAlike t (step sound t call x) (step sound t call u)) (sym (alike .same)) (one-alike call u (w .cells) (alike .cells)))
 
-pub as-it-is : {t : Tables} {bytes : List ℕ} (o : Opening t bytes) → AsItIs t bytes o
-as-it-is {t} {bytes} o =
-    record {
-      unseen = λ cells agree calls.
-          after-alike t calls (openedOn o cells) (opened sound t bytes (o .lent)) (record { same = refl; cells = λ r hr has. sym (agree r hr has) });
-    }
+module _ {t : Tables} {bytes : List ℕ} (o : Opening t bytes) where
+  unseen-by : (cells : Cells) → Agree t cells bytes → (calls : List Call) → SeenAlike t (after sound t calls (openedOn o cells)) (worldAfter o calls)
+  unseen-by cells agree calls =
+      after-alike t calls (openedOn o cells) (opened sound t bytes (o .lent)) (record { same = refl; cells = λ r hr has. sym (agree r hr has) })
+
+  -- the calls after those are answered alike
+  told-alike : (cells : Cells) → Agree t cells bytes → (calls later : List Call)
+      → after sound t later (after sound t calls (openedOn o cells)) .answer ≡ after sound t later (worldAfter o calls) .answer
+  told-alike cells agree calls later = ap (λ (w : World). w .answer) (after-alike t later _ _ (unseen-by cells agree calls) .same)
+
+  pub as-it-is : AsItIs t bytes o
+  unfolding after
+  as-it-is =
+      record {
+        unseen = unseen-by;
+        reads-back = λ cells agree calls v z anys obedient plain nothing due enough.
+            told-alike cells agree calls (wholeRead v anys) ∙ demand-3 t bytes .reads-back o calls v z anys obedient plain nothing due enough;
+        half-written = λ cells agree calls v plain nothing due.
+            told-alike cells agree calls (BeginRead v ∷ []) ∙ demand-3 t bytes .half-written o calls v plain nothing due;
+      }
 
 -- ── what an opening after a loss must read ──
 
@@ -212,9 +226,6 @@ module _ {t : Tables} {power : List ℕ} (o : Opening t power) where
         numbers-again = numbers-left;
         opens-again = reopened;
         settled-known = known;
-        settled-read = λ calls performed again v z anys agree obedient plain settled due enough.
-            ap (λ (w : World). w .answer) (as-it-is again .unseen (leftBy t performed (worldAfter o calls)) agree (wholeRead v anys) .same)
-            ∙ demand-3 t _ .reads-back again [] v z anys obedient plain refl (known calls performed again v agree plain settled ∙ due) enough;
         mixed-known = λ calls v z u performed {bytes} again agree plain settled.
             start-due again v
             ∙ again-due t (ok o) (rules o) (powerOn power) (leftBy t performed (worldAfter o calls)) bytes v agree plain

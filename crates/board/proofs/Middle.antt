@@ -253,7 +253,7 @@ module _ {t : Tables} {power : List ℕ} (o : Opening t power) where
   ended asked s (Reading v n g) z link = refl
   ended asked s (Writing v n x) z link = refl
 
-  at-rest : (w : World) (performed : Bool) → Holds w → step sound t (Abandon performed) w .asked ≡ Nothing
+  pub at-rest : (w : World) (performed : Bool) → Holds w → step sound t (Abandon performed) w .asked ≡ Nothing
   at-rest w performed i =
       let s = w .state in
       ap (λ (q : Outcome). closed (q .answer) (w .asked))

@@ -12,9 +12,9 @@ use Rattle.tables.specs.declared.Part.the-variants.{Read as reading, Write as w
 use Rattle.tables.specs.View.{Tables, sound, Plain, registerCount, registerWidth, registerHas, kindOf, size, homeOf, isAmong}
 use Rattle.bits.specs.Bits.{bit, numberOf}
 use Rattle.bits.specs.Values.{encode, decode}
-use Rattle.station.specs.declared.Answer.the-variants.{Opened, Done}
+use Rattle.station.specs.declared.Answer.the-variants.{Refused, Opened, Done}
 use Rattle.station.specs.Calls.{State, opening, isLong, stepsOf}
-use Rattle.board.specs.Board.{Cells, Nothing, Gives, World, withCells, Call, after, wholeRead}
+use Rattle.board.specs.Board.{Cells, Nothing, Gives, HalfWritten, World, withCells, Call, BeginRead, step, after, wholeRead}
 use Rattle.board.specs.Obedient.{Obedient}
 use Rattle.board.specs.Demand.{Opening, powerOn, worldAfter, dueAfter}
 use Rattle.board.specs.Stops.{lastGiven, Settled, leftBy}
@@ -39,9 +39,14 @@ pub record SeenAlike (t : Tables) (w u : World) : Type 0 where
   pub cells : (r : ℕ) → r < registerCount t → registerHas t reading r ≡ true → w .cells r ≡ u .cells r
 
 -- demand 3 supposes that "the cells at an opening are its power-on bytes"; where they agree on what can be read, every
--- call is answered as if they were
+-- call is answered as if they were. So its sentences on reading hold of such a board
 pub record AsItIs (t : Tables) (bytes : List ℕ) (o : Opening t bytes) : Type 0 where
   pub unseen : (cells : Cells) → Agree t cells bytes → (calls : List Call) → SeenAlike t (after sound t calls (openedOn o cells)) (worldAfter o calls)
+  pub reads-back : (cells : Cells) → Agree t cells bytes → (calls : List Call) (v : ℕ) (z : ℤ) (anys : List ℕ) → Obedient t bytes → Plain t v
+      → worldAfter o calls .asked ≡ Nothing → dueAfter o calls v ≡ Gives z → length anys ≡ stepsOf t reading v
+      → after sound t (wholeRead v anys) (after sound t calls (openedOn o cells)) .answer ≡ Done z (stepsOf t reading v)
+  pub half-written : (cells : Cells) → Agree t cells bytes → (calls : List Call) (v : ℕ) → Plain t v → worldAfter o calls .asked ≡ Nothing
+      → dueAfter o calls v ≡ HalfWritten → step sound t (BeginRead v) (after sound t calls (openedOn o cells)) .answer ≡ Refused 28
 
 -- ── a loss of power ──
 
@@ -57,11 +62,6 @@ pub record PowerLost (t : Tables) (power : List ℕ) (o : Opening t power) : Typ
   -- a plain variable that was settled reads as before: as its last finished value, or its first power-on bits
   pub settled-known : (calls : List Call) (performed : Bool) {bytes : List ℕ} (again : Opening t bytes) (v : ℕ)
       → Agree t (leftBy t performed (worldAfter o calls)) bytes → Plain t v → Settled (worldAfter o calls) v → dueAfter again [] v ≡ dueAfter o calls v
-  -- so it is read, on the board as it is, where demand 3 says that a read is done
-  pub settled-read : (calls : List Call) (performed : Bool) {bytes : List ℕ} (again : Opening t bytes) (v : ℕ) (z : ℤ) (anys : List ℕ)
-      → Agree t (leftBy t performed (worldAfter o calls)) bytes → Obedient t bytes → Plain t v → Settled (worldAfter o calls) v
-      → dueAfter o calls v ≡ Gives z → length anys ≡ stepsOf t reading v
-      → after sound t (wholeRead v anys) (openedOn again (leftBy t performed (worldAfter o calls))) .answer ≡ Done z (stepsOf t reading v)
   -- a plain variable in the middle of its write, settled before it, reads as the new bits in the registers set and the
   -- old ones elsewhere. It is not refused: the mark is lost with the power, and what it reads may be neither value
   -- (proofs/Witness.antt has such a case; Remarks.antt says what helps). Of one that was half-written before, no more is
