@@ -21,12 +21,12 @@ module _ (t : Tables) (ok : sound t ≡ true) where
   step-passed (Abandon performed) w = rw ok
   step-passed (Reopen power) w = rw ok
 
-  after-passed : (calls : List Call) (w : World) → after sound t calls w ≡ after passed t calls w
+  pub after-passed : (calls : List Call) (w : World) → after sound t calls w ≡ after passed t calls w
   unfolding after
   after-passed [] w = refl
   after-passed (call ∷ calls) w = after-passed calls (step sound t call w) ∙ ap (after passed t calls) (step-passed call w)
 
-  opened-passed : (power : List ℕ) (s : State) → opened sound t power s ≡ opened passed t power s
+  pub opened-passed : (power : List ℕ) (s : State) → opened sound t power s ≡ opened passed t power s
   unfolding unless
   opened-passed power s = rw ok
 

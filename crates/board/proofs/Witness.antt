@@ -35,7 +35,7 @@ use Rattle.board.proofs.Scoring.{scoring, scoring-sound}
 abbrev power : List ℕ
 power = 0x07 ∷ 0x34 ∷ 0x5C ∷ 0x7F ∷ 0x00 ∷ []
 
-abbrev lent : State
+abbrev pub lent : State
 lent = record { kept = replicate 5 0; marks = replicate 6 0; operation = Idle }
 
 accepted : opening sound scoring power lent .answer ≡ Opened
@@ -51,7 +51,7 @@ power-numbers (suc (suc (suc zero))) h = omega arith
 power-numbers (suc (suc (suc (suc zero)))) h = omega arith
 power-numbers (suc (suc (suc (suc (suc r))))) h = absurd (omega arith)
 
-start : Opening scoring power
+pub start : Opening scoring power
 start = record { lent = lent; accepted = accepted; numbers = power-numbers }
 
 -- ── the plain variables are the score, the row and the seat ──
@@ -62,7 +62,7 @@ below-three P at-0 at-1 at-2 (suc zero) h = at-1
 below-three P at-0 at-1 at-2 (suc (suc zero)) h = at-2
 below-three P at-0 at-1 at-2 (suc (suc (suc v))) h = absurd (not-suc-le-zero (le-of-suc-le-suc (le-of-suc-le-suc (le-of-suc-le-suc h))))
 
-plain : (v : ℕ) → v < 3 → Plain scoring v
+pub plain : (v : ℕ) → v < 3 → Plain scoring v
 unfolding scoring variableCount isVolatile isTrigger variableHas joined downFrom bitsOf
 plain v h =
     record {
@@ -202,15 +202,15 @@ boards-differ same =
 
 -- ── and by computation ──
 
-run : List Call → World
+unfoldable pub run : List Call → World
 run calls = after passed scoring calls (opened passed scoring power lent)
 
-run-is : (calls : List Call) → worldAfter start calls ≡ run calls
+pub run-is : (calls : List Call) → worldAfter start calls ≡ run calls
 unfolding run start
 run-is calls = world-passed scoring scoring-sound start calls
 
 -- the cells of the five registers
-abbrev fiveCells : Cells → List ℕ
+abbrev pub fiveCells : Cells → List ℕ
 fiveCells cells = cells 0 ∷ cells 1 ∷ cells 2 ∷ cells 3 ∷ cells 4 ∷ []
 
 left : List Call → List ℕ
@@ -261,10 +261,10 @@ ran-is = refl
 
 -- ── power lost between the two registers of a score: what was 0x123 and was to be 0x456 reads as neither ──
 
-abbrev lostCalls : List Call
+abbrev pub lostCalls : List Call
 lostCalls = wholeWrite 0 (pos 0x123) (7 ∷ 7 ∷ []) ++ (BeginWrite 0 (pos 0x456) ∷ Confirm 7 ∷ [])
 
-abbrev lostCells : Cells
+abbrev pub lostCells : Cells
 lostCells = leftBy scoring false (worldAfter start lostCalls)
 
 lost-are : fiveCells lostCells ≡ 0x04 ∷ 0x23 ∷ 0x5C ∷ 0x7F ∷ 0x00 ∷ []
@@ -272,10 +272,10 @@ unfolding run scoring after cutTo numbersIn unless isLong isUnderway isRead isGa
 lost-are = ap (λ (w : World). fiveCells (leftBy scoring false w)) (run-is lostCalls)
 
 -- four registers are read back; for the fifth, which cannot be read, the station lends a number that it does not hold
-abbrev againPower : List ℕ
+abbrev pub againPower : List ℕ
 againPower = 0x04 ∷ 0x23 ∷ 0x5C ∷ 0x7F ∷ 0x01 ∷ []
 
-agree : Agree scoring lostCells againPower
+pub agree : Agree scoring lostCells againPower
 unfolding scoring registerCount registerHas
 agree =
     below-five (λ r. registerHas scoring reading r ≡ true → getD againPower r 0 ≡ lostCells r) (λ has. is 0) (λ has. is 1) (λ has. is 2) (λ has. is 3)
@@ -296,14 +296,14 @@ again-numbers : (r : ℕ) → r < registerCount scoring → getD againPower r 0 
 unfolding scoring registerCount registerWidth
 again-numbers = below-five (λ r. getD againPower r 0 < 2 ^ registerWidth scoring r) (omega arith) (omega arith) (omega arith) (omega arith) (omega arith)
 
-again : Opening scoring againPower
+pub again : Opening scoring againPower
 again = record { lent = lent; accepted = power-lost start .opens-again againPower lent again-enough again-long; numbers = again-numbers }
 
-runAgain : List Call → World
+unfoldable pub runAgain : List Call → World
 runAgain calls = after passed scoring calls (opened passed scoring againPower lent)
 
 -- on the board as it is every call is answered as if its cells were the numbers lent
-told-again : (calls : List Call) → after sound scoring calls (openedOn again lostCells) .answer ≡ runAgain calls .answer
+pub told-again : (calls : List Call) → after sound scoring calls (openedOn again lostCells) .answer ≡ runAgain calls .answer
 unfolding runAgain again
 told-again calls =
     ap (λ (w : World). w .answer) (as-it-is again .unseen lostCells agree calls .same)
