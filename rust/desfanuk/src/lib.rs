@@ -38,6 +38,75 @@
 //! assert_eq!(station.begin_read(score), Answer::Refused(Refusal::HalfWritten));
 //! ```
 //!
+//! # A station that stops
+//!
+//! A station that is killed between two accesses and has kept its record, marks and operation
+//! performs the access on offer, perhaps for the second time, and confirms it: on registers that are
+//! plain storage all is as if it had not stopped.
+//!
+//! A loss of power takes the marks with it. What is read back then may be half a score and half
+//! another. So a station keeps a list of the variables whose writes are unfinished on storage that
+//! outlives the power (here `List`, a `BTreeSet<usize>`, stands for a file that is synced at each
+//! change), and marks them again:
+//!
+//! ```
+//! # use std::collections::BTreeSet;
+//! # use desfanuk::{Access, Answer, Description, Direction, Done, Number, Ports, Refusal, Station, Stopped};
+//! # type List = BTreeSet<usize>;
+//! fn write<P: Ports>(
+//!     station: &mut Station, list: &mut List, variable: usize, value: i64, ports: &mut P,
+//! ) -> Result<Done, Stopped<P::Failure>> {
+//!     list.insert(variable); // before the first access, and on storage that outlives the power
+//!     let written = station.write(variable, value, ports);
+//!     if written.is_ok() {
+//!         list.remove(&variable);
+//!     }
+//!     written
+//! }
+//!
+//! fn open_again<'d>(description: &'d Description, cells: &[Number], list: &List) -> Result<Station<'d>, Refusal> {
+//!     let mut station = Station::open(description, cells)?;
+//!     for &variable in list {
+//!         if let Answer::Offer(_) = station.begin_write(variable, 0) {
+//!             station.abandon()?; // nothing was performed: it is marked, and no more
+//!         }
+//!     }
+//!     Ok(station)
+//! }
+//! # // a board whose cable is pulled after so many accesses
+//! # struct Board { cells: [Number; 2], left: usize }
+//! # impl Ports for Board {
+//! #     type Failure = ();
+//! #     fn perform(&mut self, access: Access) -> Result<Number, ()> {
+//! #         self.left = self.left.checked_sub(1).ok_or(())?;
+//! #         let cell = &mut self.cells[usize::from(access.offset)];
+//! #         if access.direction == Direction::Write { *cell = access.number; }
+//! #         Ok(*cell)
+//! #     }
+//! # }
+//! # let text = "device d(base : bit[8] port @ {0..1}) { register high = base : bit[8];
+//! #     register low = base @ 1 : bit[8]; variable score = high # low : int(16); }";
+//! # let description = Description::load(text).expect("a good description");
+//! # let score = description.variable("score").expect("it has a score");
+//! # let mut board = Board { cells: [0, 0], left: 3 };
+//! # let mut list = List::new();
+//! # let mut station = Station::open(&description, &board.cells).expect("two numbers");
+//! # assert!(write(&mut station, &mut list, score, 0x1234, &mut board).is_ok());
+//! # assert!(list.is_empty());
+//! # assert_eq!(write(&mut station, &mut list, score, 0x5678, &mut board), Err(Stopped::Failed(())));
+//! # board.left = 100;
+//! # let mut careless = Station::open(&description, &board.cells).expect("two numbers");
+//! # assert_eq!(careless.read(score, &mut board).map(|done| done.value), Ok(0x5634));
+//! # let mut station = open_again(&description, &board.cells, &list).expect("two numbers");
+//! # assert_eq!(station.read(score, &mut board), Err(Stopped::Refused(Refusal::HalfWritten)));
+//! # assert!(write(&mut station, &mut list, score, 0x5678, &mut board).is_ok());
+//! # assert_eq!(station.read(score, &mut board).map(|done| done.value), Ok(0x5678));
+//! ```
+//!
+//! Every plain variable is then refused as half-written or reads exactly as before (`remarked`,
+//! crates/board/specs/Remarks.antt). A register that cannot be read is not read back: whatever
+//! number is given for it, plain variables read the same.
+//!
 //! Where a function performs the accesses, [`Station::read`] and [`Station::write`] do the
 //! confirming, and abandon the operation when it fails: see [`Ports`]. `examples/score.rs` is a
 //! whole program. [`Station::read_in_units`] reads in lux, volts or degrees.

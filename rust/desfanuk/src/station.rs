@@ -58,8 +58,18 @@ pub enum Operation {
     },
 }
 
-/// A description in use, from an opening on.
-#[derive(Clone, Debug)]
+/// A description in use, from an opening on: one to a board.
+///
+/// Two stations over one board do not know of each other. What one of them writes is not in the
+/// record of the other, which puts old bits back beside its own, and the marks of one say nothing to
+/// the other, which reads a mixture as if it were a value. So a station is not cloned:
+///
+/// ```compile_fail
+/// fn second<'d>(station: &desfanuk::Station<'d>) -> desfanuk::Station<'d> {
+///     station.clone()
+/// }
+/// ```
+#[derive(Debug)]
 pub struct Station<'d> {
     pub(crate) description: &'d Description,
     pub(crate) record: Vec<Number>,
