@@ -1,6 +1,7 @@
 //! The proved implementation, linked from its archive, and what holds it against the second one.
 
 pub mod both;
+pub mod lives;
 pub mod plot;
 pub mod proved;
 pub mod seen;
