@@ -5,5 +5,6 @@ pub mod lives;
 pub mod plot;
 pub mod proved;
 pub mod seen;
+pub mod soak;
 pub mod station;
 pub mod texts;
