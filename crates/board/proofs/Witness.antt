@@ -42,14 +42,18 @@ accepted : opening sound scoring power lent .answer ≡ Opened
 unfolding unless isLong registerCount variableCount scoring
 accepted = rw scoring-sound
 
+-- of the five registers one at a time
+below-five : (P : ℕ → Type 0) → P 0 → P 1 → P 2 → P 3 → P 4 → (r : ℕ) → r < 5 → P r
+below-five P at-0 at-1 at-2 at-3 at-4 zero h = at-0
+below-five P at-0 at-1 at-2 at-3 at-4 (suc zero) h = at-1
+below-five P at-0 at-1 at-2 at-3 at-4 (suc (suc zero)) h = at-2
+below-five P at-0 at-1 at-2 at-3 at-4 (suc (suc (suc zero))) h = at-3
+below-five P at-0 at-1 at-2 at-3 at-4 (suc (suc (suc (suc zero)))) h = at-4
+below-five P at-0 at-1 at-2 at-3 at-4 (suc (suc (suc (suc (suc r))))) h = absurd (omega arith)
+
 power-numbers : (r : ℕ) → r < registerCount scoring → getD power r 0 < 2 ^ registerWidth scoring r
 unfolding registerCount registerWidth scoring
-power-numbers zero h = omega arith
-power-numbers (suc zero) h = omega arith
-power-numbers (suc (suc zero)) h = omega arith
-power-numbers (suc (suc (suc zero))) h = omega arith
-power-numbers (suc (suc (suc (suc zero)))) h = omega arith
-power-numbers (suc (suc (suc (suc (suc r))))) h = absurd (omega arith)
+power-numbers = below-five (λ r. getD power r 0 < 2 ^ registerWidth scoring r) (omega arith) (omega arith) (omega arith) (omega arith) (omega arith)
 
 pub start : Opening scoring power
 start = record { lent = lent; accepted = accepted; numbers = power-numbers }
@@ -91,14 +95,6 @@ only-these (suc (suc (suc (suc (suc zero))))) p = absurd (false≢true (p .whole
 only-these (suc (suc (suc (suc (suc (suc v)))))) p = let h = p .exists in absurd (omega arith)
 
 -- ── one mask for both parts, and power-on values that obey: the premise of reading back ──
-
-below-five : (P : ℕ → Type 0) → P 0 → P 1 → P 2 → P 3 → P 4 → (r : ℕ) → r < 5 → P r
-below-five P at-0 at-1 at-2 at-3 at-4 zero h = at-0
-below-five P at-0 at-1 at-2 at-3 at-4 (suc zero) h = at-1
-below-five P at-0 at-1 at-2 at-3 at-4 (suc (suc zero)) h = at-2
-below-five P at-0 at-1 at-2 at-3 at-4 (suc (suc (suc zero))) h = at-3
-below-five P at-0 at-1 at-2 at-3 at-4 (suc (suc (suc (suc zero)))) h = at-4
-below-five P at-0 at-1 at-2 at-3 at-4 (suc (suc (suc (suc (suc r))))) h = absurd (omega arith)
 
 -- three registers have both parts; the fourth is only read, with a bit fixed at 0, the fifth only written, with seven
 alike : (bitOf : Part → ℕ → ℕ → Bool) → ((b : ℕ) → bitOf reading 0 b ≡ bitOf writing 0 b) → ((b : ℕ) → bitOf reading 1 b ≡ bitOf writing 1 b)
