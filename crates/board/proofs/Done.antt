@@ -73,9 +73,9 @@ module _ (t : Tables) (is-sound : sound t ≡ true) (c : Consistent t) (power : 
 
   -- ── any call ──
 
-  opening-right : (w : World) (bytes : List ℕ) (y : ℤ) (n : ℕ) → step sound t (Reopen bytes) w .answer ≡ Done y n → ⊥
-  opening-right w bytes y n =
-      unless-cases (λ (o : Outcome). unlessOpened (o .answer) w (begun w o (w .asked)) .answer ≡ Done y n → ⊥) (openingTests sound t bytes (w .state)) (w .state) _
+  opening-right : (w : World) (numbers : List ℕ) (y : ℤ) (n : ℕ) → step sound t (Reopen numbers) w .answer ≡ Done y n → ⊥
+  opening-right w numbers y n =
+      unless-cases (λ (o : Outcome). unlessOpened (o .answer) w (begun w o (w .asked)) .answer ≡ Done y n → ⊥) (openingTests sound t numbers (w .state)) (w .state) _
       (λ k e. subst IsDone (sym e) tt) (λ passed e. subst IsDone (sym e) tt)
 
   pub done-right : (call : Call) (w : World) → InvW sound t is-sound c power w → (y : ℤ) (n : ℕ) → step sound t call w .answer ≡ Done y n
@@ -106,7 +106,7 @@ module _ (t : Tables) (is-sound : sound t ≡ true) (c : Consistent t) (power : 
         idle = ap (λ (o : Outcome). o .state .operation) passes ∙ right .1;
         at-rest = ap (λ (a : Answer). closed a (w .asked)) done;
       }
-  done-right (Reopen bytes) w i y n done = absurd (opening-right w bytes y n done)
+  done-right (Reopen numbers) w i y n done = absurd (opening-right w numbers y n done)
 
 pub says-done : {t : Tables} {power : List ℕ} (o : Opening t power) → SaysDone t power o
 says-done {t} {power} o =

@@ -103,10 +103,10 @@ module _ (t : Tables) where
       }
   one-alike (Abandon true) u f alike = record { same = refl; cells = λ r hr has. perform-alike (u .offer) f (u .cells) r (alike r hr has) }
   one-alike (Abandon false) u f alike = record { same = refl; cells = alike }
-  one-alike (Reopen bytes) u f alike =
+  one-alike (Reopen numbers) u f alike =
       unless-cases
       (λ (o : Outcome). SeenAlike t (unlessOpened (o .answer) (withCells u f) (begun (withCells u f) o (u .asked))) (unlessOpened (o .answer) u (begun u o (u .asked))))
-      (openingTests sound t bytes (u .state)) (u .state) _ (λ n. record { same = refl; cells = alike }) (λ passed. record { same = refl; cells = alike })
+      (openingTests sound t numbers (u .state)) (u .state) _ (λ n. record { same = refl; cells = alike }) (λ passed. record { same = refl; cells = alike })
 
   after-alike : (calls : List Call) (w u : World) → SeenAlike t w u → SeenAlike t (after sound t calls w) (after sound t calls u)
   unfolding after
@@ -115,25 +115,25 @@ module _ (t : Tables) where
       after-alike calls (step sound t call w) (step sound t call u)
       (subst (λ (x : World). SeenAlike t (step sound t call x) (step sound t call u)) (sym (alike .same)) (one-alike call u (w .cells) (alike .cells)))
 
-module _ {t : Tables} {bytes : List ℕ} (o : Opening t bytes) where
-  unseen-by : (cells : Cells) → Agree t cells bytes → (calls : List Call) → SeenAlike t (after sound t calls (openedOn o cells)) (worldAfter o calls)
+module _ {t : Tables} {numbers : List ℕ} (o : Opening t numbers) where
+  unseen-by : (cells : Cells) → Agree t cells numbers → (calls : List Call) → SeenAlike t (after sound t calls (openedOn o cells)) (worldAfter o calls)
   unseen-by cells agree calls =
-      after-alike t calls (openedOn o cells) (opened sound t bytes (o .lent)) (record { same = refl; cells = λ r hr has. sym (agree r hr has) })
+      after-alike t calls (openedOn o cells) (opened sound t numbers (o .lent)) (record { same = refl; cells = λ r hr has. sym (agree r hr has) })
 
   -- the calls after those are answered alike
-  told-alike : (cells : Cells) → Agree t cells bytes → (calls later : List Call)
+  told-alike : (cells : Cells) → Agree t cells numbers → (calls later : List Call)
       → after sound t later (after sound t calls (openedOn o cells)) .answer ≡ after sound t later (worldAfter o calls) .answer
   told-alike cells agree calls later = ap (λ (w : World). w .answer) (after-alike t later _ _ (unseen-by cells agree calls) .same)
 
-  pub as-it-is : AsItIs t bytes o
+  pub as-it-is : AsItIs t numbers o
   unfolding after
   as-it-is =
       record {
         unseen = unseen-by;
         reads-back = λ cells agree calls v z anys obedient plain nothing due enough.
-            told-alike cells agree calls (wholeRead v anys) ∙ demand-3 t bytes .reads-back o calls v z anys obedient plain nothing due enough;
+            told-alike cells agree calls (wholeRead v anys) ∙ demand-3 t numbers .reads-back o calls v z anys obedient plain nothing due enough;
         half-written = λ cells agree calls v plain nothing due.
-            told-alike cells agree calls (BeginRead v ∷ []) ∙ demand-3 t bytes .half-written o calls v plain nothing due;
+            told-alike cells agree calls (BeginRead v ∷ []) ∙ demand-3 t numbers .half-written o calls v plain nothing due;
       }
 
 -- ── what an opening after a loss must read ──
@@ -147,15 +147,15 @@ module _ (t : Tables) (is-sound : sound t ≡ true) (c : Consistent t) (power : 
   can-be-read v j plain hj =
       ap (λ (p : Place). registerHas t reading (p .register)) (sym (same-place t v j plain)) ∙ c .on-part reading v j (plain .exists) (rw (same-size t v plain) hj)
 
-  again-due : (cells : Cells) (bytes : List ℕ) (v : ℕ) → Agree t cells bytes → Plain t v
-      → mustRead t (powerOn bytes) [] v ≡ Gives (decode (kindOf t v) (size t writing v) (bitsIn t writing v cells))
+  again-due : (cells : Cells) (numbers : List ℕ) (v : ℕ) → Agree t cells numbers → Plain t v
+      → mustRead t (powerOn numbers) [] v ≡ Gives (decode (kindOf t v) (size t writing v) (bitsIn t writing v cells))
   unfolding mustRead bitsIn
-  again-due cells bytes v agree plain =
+  again-due cells numbers v agree plain =
       ap {B = Due} Gives
-      (ap (λ (w : ℕ). decode (kindOf t v) w (numberOf w (λ j. bit (spotOf t reading v j) (getD bytes (homeOf t reading v j) 0)))) (same-size t v plain)
+      (ap (λ (w : ℕ). decode (kindOf t v) w (numberOf w (λ j. bit (spotOf t reading v j) (getD numbers (homeOf t reading v j) 0)))) (same-size t v plain)
       ∙ ap (decode (kindOf t v) (size t writing v))
       (number-same (size t writing v) _ _ (λ j hj.
-      ap (λ (p : Place). bit (p .bitNo) (getD bytes (p .register) 0)) (same-place t v j plain)
+      ap (λ (p : Place). bit (p .bitNo) (getD numbers (p .register) 0)) (same-place t v j plain)
       ∙ ap (bit (spotOf t writing v j)) (agree _ (c .in-register writing v j (plain .exists) hj) (can-be-read v j plain hj)))))
 
   settled-due : (w : World) (v : ℕ) → Holding w → Plain t v → Settled w v
@@ -164,10 +164,10 @@ module _ (t : Tables) (is-sound : sound t ≡ true) (c : Consistent t) (power : 
       i .1 .engine .tells v (plain .exists) .0 plain (unmarked t is-sound c power w v i (plain .exists) settled)
       ∙ ap {B = Due} (λ (s : ℕ). Gives (decode (kindOf t v) s (lastGiven t power (w .events) v))) (same-size t v plain)
 
-  known-again : (w : World) (bytes : List ℕ) (v : ℕ) → Holding w → Agree t (w .cells) bytes → Plain t v → Settled w v
-      → mustRead t (powerOn bytes) [] v ≡ mustRead t power (w .events) v
-  known-again w bytes v i agree plain settled =
-      again-due (w .cells) bytes v agree plain
+  known-again : (w : World) (numbers : List ℕ) (v : ℕ) → Holding w → Agree t (w .cells) numbers → Plain t v → Settled w v
+      → mustRead t (powerOn numbers) [] v ≡ mustRead t power (w .events) v
+  known-again w numbers v i agree plain settled =
+      again-due (w .cells) numbers v agree plain
       ∙ ap {B = Due} (λ (x : ℕ). Gives (decode (kindOf t v) (size t writing v) x)) (settled-number t is-sound c power w v i (plain .exists) settled)
       ∙ sym (settled-due w v i plain settled)
 
@@ -195,21 +195,21 @@ module _ {t : Tables} {power : List ℕ} (o : Opening t power) where
   numbers-left : (calls : List Call) (performed : Bool) (r : ℕ) → r < registerCount t → leftBy t performed (worldAfter o calls) r < 2 ^ registerWidth t r
   numbers-left calls performed = stopped-holds calls performed .1 .engine .small
 
-  reopened : (bytes : List ℕ) (lent : State) → registerCount t ≤ length bytes → isLong t lent ≡ true → opening sound t bytes lent .answer ≡ Opened
+  reopened : (numbers : List ℕ) (lent : State) → registerCount t ≤ length numbers → isLong t lent ≡ true → opening sound t numbers lent .answer ≡ Opened
   unfolding unless
-  reopened bytes lent enough long = let all : leb (registerCount t) (length bytes) ≡ true = le-leb _ _ enough in rw (ok o, all, long)
+  reopened numbers lent enough long = let all : leb (registerCount t) (length numbers) ≡ true = le-leb _ _ enough in rw (ok o, all, long)
 
   -- the due of an opening that nothing has followed
-  start-due : {bytes : List ℕ} (again : Opening t bytes) (v : ℕ) → dueAfter again [] v ≡ mustRead t (powerOn bytes) [] v
+  start-due : {numbers : List ℕ} (again : Opening t numbers) (v : ℕ) → dueAfter again [] v ≡ mustRead t (powerOn numbers) [] v
   unfolding after
   start-due again v = refl
 
-  pub known : (calls : List Call) (performed : Bool) {bytes : List ℕ} (again : Opening t bytes) (v : ℕ)
-      → Agree t (leftBy t performed (worldAfter o calls)) bytes → Plain t v → Settled (worldAfter o calls) v → dueAfter again [] v ≡ dueAfter o calls v
-  known calls performed {bytes} again v agree plain settled =
+  pub known : (calls : List Call) (performed : Bool) {numbers : List ℕ} (again : Opening t numbers) (v : ℕ)
+      → Agree t (leftBy t performed (worldAfter o calls)) numbers → Plain t v → Settled (worldAfter o calls) v → dueAfter again [] v ≡ dueAfter o calls v
+  known calls performed {numbers} again v agree plain settled =
       let still = step-settled sound t (powerOn power) (Abandon performed) (worldAfter o calls) v settled refl in
       start-due again v
-      ∙ known-again t (ok o) (rules o) (powerOn power) (step sound t (Abandon performed) (worldAfter o calls)) bytes v (stopped-holds calls performed) agree plain (still .settled)
+      ∙ known-again t (ok o) (rules o) (powerOn power) (step sound t (Abandon performed) (worldAfter o calls)) numbers v (stopped-holds calls performed) agree plain (still .settled)
       ∙ still .notes .due
 
   -- the cells of a write that has set no register are those before it
@@ -226,14 +226,14 @@ module _ {t : Tables} {power : List ℕ} (o : Opening t power) where
         numbers-again = numbers-left;
         opens-again = reopened;
         settled-known = known;
-        mixed-known = λ calls v z u performed {bytes} again agree plain settled.
+        mixed-known = λ calls v z u performed {numbers} again agree plain settled.
             start-due again v
-            ∙ again-due t (ok o) (rules o) (powerOn power) (leftBy t performed (worldAfter o calls)) bytes v agree plain
+            ∙ again-due t (ok o) (rules o) (powerOn power) (leftBy t performed (worldAfter o calls)) numbers v agree plain
             ∙ ap {B = Due} (λ (x : ℕ). Gives (decode (kindOf t v) (size t writing v) x))
             (mixed-bits t (ok o) (rules o) (powerOn power) (worldAfter o (u .before)) v (encode (size t writing v) z) (setSoFar t v (confirmations (u .since)) performed)
             (leftBy t performed (worldAfter o calls)) (world-holds o (u .before)) (u .takes .exists) settled (u .half-set performed));
-        unset-known = λ calls v z u {bytes} again agree plain settled nothing.
+        unset-known = λ calls v z u {numbers} again agree plain settled nothing.
             start-due again v
-            ∙ known-again t (ok o) (rules o) (powerOn power) (worldAfter o (u .before)) bytes v (world-holds o (u .before))
+            ∙ known-again t (ok o) (rules o) (powerOn power) (worldAfter o (u .before)) numbers v (world-holds o (u .before))
             (λ r hr has. agree r hr has ∙ unset calls v z u nothing r) plain settled;
       }

@@ -163,11 +163,11 @@ module _ {t : Tables} {power : List ℕ} (o : Opening t power) where
       (readTests sound t (w .state) u) (w .state) _
       (λ n e. passed-by done w _ (BeginRead u) v z refl refl refl refl refl (trail v z e)) (λ passed e. absurd (subst IsToWrite (sym e) tt))
 
-  trail-reopen : (done : List Call) (w : World) (bytes : List ℕ) → Trail done w → Trail (done ++ (Reopen bytes ∷ [])) (step sound t (Reopen bytes) w)
+  trail-reopen : (done : List Call) (w : World) (numbers : List ℕ) → Trail done w → Trail (done ++ (Reopen numbers ∷ [])) (step sound t (Reopen numbers) w)
   unfolding confirmations
-  trail-reopen done w bytes trail v z e =
-      let stays = reopen-stays sound t w bytes in
-      passed-by done w _ (Reopen bytes) v z (ap (λ (x : World). x .state) stays) (ap (λ (x : World). x .cells) stays) (ap (λ (x : World). x .events) stays) refl refl
+  trail-reopen done w numbers trail v z e =
+      let stays = reopen-stays sound t w numbers in
+      passed-by done w _ (Reopen numbers) v z (ap (λ (x : World). x .state) stays) (ap (λ (x : World). x .cells) stays) (ap (λ (x : World). x .events) stays) refl refl
       (trail v z (sym (ap (λ (x : World). x .asked) stays) ∙ e))
 
   not-in-hand : (op : Operation) (asked : Asked) (z : ℤ) → Linked asked op z → isInHand op ≡ false → asked ≡ Nothing
@@ -268,7 +268,7 @@ module _ {t : Tables} {power : List ℕ} (o : Opening t power) where
   trail-step done w (BeginWrite u y) here i trail = trail-begin-write done w u y here i trail
   trail-step done w (Confirm any) here i trail = trail-confirm done w any i trail
   trail-step done w (Abandon performed) here i trail = trail-abandon done w performed i
-  trail-step done w (Reopen bytes) here i trail = trail-reopen done w bytes trail
+  trail-step done w (Reopen numbers) here i trail = trail-reopen done w numbers trail
 
   worlds-append : (first second : List Call) → worldAfter o (first ++ second) ≡ after sound t second (worldAfter o first)
   worlds-append first second = after-append sound t (ok o) (rules o) (powerOn power) first second (opened sound t power (o .lent))

@@ -79,7 +79,7 @@ module _ (t : Tables) (power : List ℕ) (q : Obedient t power) where
     step-obeys (Confirm any) w i all = offer-obeys w i all
     step-obeys (Abandon true) w i all = offer-obeys w i all
     step-obeys (Abandon false) w i all = all
-    step-obeys (Reopen bytes) w i all = rw (reopen-stays sound t w bytes) all
+    step-obeys (Reopen numbers) w i all = rw (reopen-stays sound t w numbers) all
 
     after-obeys : (calls : List Call) (w : World) → Holding w → AllObey t (w .cells) → AllObey t (after sound t calls w .cells)
     unfolding after

@@ -123,7 +123,7 @@ module _ (sound : Tables → Bool) (t : Tables) (power : Cells) where
         };
         notes = notes;
       }
-  step-settled (Reopen bytes) w v before other = rw (reopen-stays sound t w bytes) (record {
+  step-settled (Reopen numbers) w v before other = rw (reopen-stays sound t w numbers) (record {
     settled = record { whole = before .whole; at-rest = before .at-rest };
     notes = same t power v (w .events);
   })

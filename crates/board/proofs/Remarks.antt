@@ -94,12 +94,12 @@ covers t w v plain = go (w .asked) (either (isAmong v (unfinishedIn (w .events))
 
 -- ── one mark ──
 
-module _ {t : Tables} {bytes : List ℕ} (o : Opening t bytes) where
+module _ {t : Tables} {numbers : List ℕ} (o : Opening t numbers) where
   abbrev Holds : World → Type 0
-  Holds w = InvW sound t (ok o) (rules o) (powerOn bytes) w
+  Holds w = InvW sound t (ok o) (rules o) (powerOn numbers) w
 
   abbrev due : List Event → ℕ → Due
-  due es v = mustRead t (powerOn bytes) es v
+  due es v = mustRead t (powerOn numbers) es v
 
   -- the world after a write of u is begun and abandoned
   abbrev markedOnce : ℕ → ℤ → World → World
@@ -107,11 +107,11 @@ module _ {t : Tables} {bytes : List ℕ} (o : Opening t bytes) where
 
   once-holds : (u : ℕ) (y : ℤ) (w : World) → Holds w → Holds (markedOnce u y w)
   once-holds u y w i =
-      step-keeps sound t (ok o) (rules o) (powerOn bytes) (Abandon false) (step sound t (BeginWrite u y) w)
-      (step-keeps sound t (ok o) (rules o) (powerOn bytes) (BeginWrite u y) w i)
+      step-keeps sound t (ok o) (rules o) (powerOn numbers) (Abandon false) (step sound t (BeginWrite u y) w)
+      (step-keeps sound t (ok o) (rules o) (powerOn numbers) (BeginWrite u y) w i)
 
   once-rests : (u : ℕ) (y : ℤ) (w : World) → Holds w → markedOnce u y w .asked ≡ Nothing
-  once-rests u y w i = at-rest o (step sound t (BeginWrite u y) w) false (step-keeps sound t (ok o) (rules o) (powerOn bytes) (BeginWrite u y) w i)
+  once-rests u y w i = at-rest o (step sound t (BeginWrite u y) w) false (step-keeps sound t (ok o) (rules o) (powerOn numbers) (BeginWrite u y) w i)
 
   -- an end notes nothing, or that what was asked is abandoned
   abbrev NotesOf : ℕ → List Event → List Event → Type 0
@@ -134,9 +134,9 @@ module _ {t : Tables} {bytes : List ℕ} (o : Opening t bytes) where
   once-notes : (u : ℕ) (y : ℤ) (w : World) → Holds w → w .asked ≡ Nothing → NotesOf u (markedOnce u y w .events) (w .events)
   once-notes u y w i nothing =
       let x : World = step sound t (BeginWrite u y) w in
-      let j : Holds x = step-keeps sound t (ok o) (rules o) (powerOn bytes) (BeginWrite u y) w i in
+      let j : Holds x = step-keeps sound t (ok o) (rules o) (powerOn numbers) (BeginWrite u y) w i in
       subst (λ (q : Outcome). NotesOf u (noted (q .answer) (x .asked) (w .events)) (w .events))
-      (sym (checked-alone sound t (ok o) (rules o) (powerOn bytes) (x .state) (abandoned (x .state) (x .state .operation)) (j .1 .engine .long) (j .1 .allowed)))
+      (sym (checked-alone sound t (ok o) (rules o) (powerOn numbers) (x .state) (abandoned (x .state) (x .state .operation)) (j .1 .engine .long) (j .1 .allowed)))
       (end-notes u y (w .events) (x .state) (x .state .operation) (x .asked) (begin-asks u y w nothing))
 
   -- a write that is taken on is marked
@@ -146,16 +146,16 @@ module _ {t : Tables} {bytes : List ℕ} (o : Opening t bytes) where
   takes-on u y w i nothing takes =
       let idle : isInHand (w .state .operation) ≡ false = ap isInHand (idle-of (w .state .operation) (w .asked) (i .0) (i .2) nothing) in
       let (low, high) = not-outside (kindOf t u) (size t writing u) y (takes .fits) in
-      rw (ok o, long-is sound t (ok o) (rules o) (powerOn bytes) (w .state) (i .1 .engine .long), i .1 .allowed, idle, lt-ltb _ _ (takes .exists), takes .has-part, low, high)
+      rw (ok o, long-is sound t (ok o) (rules o) (powerOn numbers) (w .state) (i .1 .engine .long), i .1 .allowed, idle, lt-ltb _ _ (takes .exists), takes .has-part, low, high)
 
   once-marks : (u : ℕ) (y : ℤ) (w : World) → Holds w → w .asked ≡ Nothing → Takes t u y → markedOnce u y w .events ≡ Abandoned u ∷ w .events
   once-marks u y w i nothing takes =
       let x : World = begun w (begunWrite t (w .state) u (encode (size t writing u) y)) (ToWrite u y) in
       let first : step sound t (BeginWrite u y) w ≡ x = ap (λ (q : Outcome). begun w q (ToWrite u y)) (takes-on u y w i nothing takes) in
-      let j : Holds x = subst Holds first (step-keeps sound t (ok o) (rules o) (powerOn bytes) (BeginWrite u y) w i) in
+      let j : Holds x = subst Holds first (step-keeps sound t (ok o) (rules o) (powerOn numbers) (BeginWrite u y) w i) in
       ap (λ (q : World). step sound t (Abandon false) q .events) first
       ∙ ap (λ (q : Outcome). noted (q .answer) (ToWrite u y) (w .events))
-      (checked-alone sound t (ok o) (rules o) (powerOn bytes) (x .state) (abandoned (x .state) (x .state .operation)) (j .1 .engine .long) (j .1 .allowed))
+      (checked-alone sound t (ok o) (rules o) (powerOn numbers) (x .state) (abandoned (x .state) (x .state .operation)) (j .1 .engine .long) (j .1 .allowed))
 
   -- ── all marks ──
 
@@ -211,13 +211,13 @@ module _ {t : Tables} {bytes : List ℕ} (o : Opening t bytes) where
 -- ── from an opening on ──
 
 module _ {t : Tables} {power : List ℕ} (o : Opening t power) where
-  marks-again : {bytes : List ℕ} (again : Opening t bytes) (value : ℕ → ℤ) (list : List ℕ) → AllFit t value → (v : ℕ) → Plain t v
+  marks-again : {numbers : List ℕ} (again : Opening t numbers) (value : ℕ → ℤ) (list : List ℕ) → AllFit t value → (v : ℕ) → Plain t v
       → Marks again list (worldAfter again (remarks value list) .events) [] v
   unfolding after
   marks-again again value list = all-marked again value list (worldAfter again []) (world-holds again []) refl
 
-  mixed-never : (calls : List Call) (performed : Bool) {bytes : List ℕ} (again : Opening t bytes) (value : ℕ → ℤ) (list : List ℕ)
-      → Agree t (leftBy t performed (worldAfter o calls)) bytes → AllFit t value → Covers t (worldAfter o calls) list → (v : ℕ) → Plain t v
+  mixed-never : (calls : List Call) (performed : Bool) {numbers : List ℕ} (again : Opening t numbers) (value : ℕ → ℤ) (list : List ℕ)
+      → Agree t (leftBy t performed (worldAfter o calls)) numbers → AllFit t value → Covers t (worldAfter o calls) list → (v : ℕ) → Plain t v
       → (dueAfter again (remarks value list) v ≡ HalfWritten) ⊎ (dueAfter again (remarks value list) v ≡ dueAfter o calls v)
   unfolding after
   mixed-never calls performed again value list agree fit covered v plain = by (covered v plain) (marks .all)

@@ -52,7 +52,7 @@ module _ (t : Tables) where
   one-of f g v r old new same (inr is) = inr (share-of f g v r new same is)
 
 module _ (t : Tables) (is-sound : sound t ≡ true) (c : Consistent t) (power : Cells) where
-  -- another variable's byte at register s has v's bits from the record
+  -- another variable's number at register s has v's bits from the record
   put-share : (f kept : Cells) (u x s v r : ℕ) → u < variableCount t → v < variableCount t → (u ≡ v → ⊥)
       → SameShare t (put f s (writtenByte t kept u x s)) f v r ⊎ SameShare t (put f s (writtenByte t kept u x s)) kept v r
   put-share f kept u x s v r hu hv apart = go (either (eqb r s))
@@ -190,8 +190,8 @@ module _ (t : Tables) (is-sound : sound t ≡ true) (c : Consistent t) (power : 
         in-cell = offered w v r i hv rest;
       }
   step-share (Abandon performed) w v r i hv rest = abandon-share w performed v r i hv rest
-  step-share (Reopen bytes) w v r i hv rest =
-      let stays = reopen-stays sound t w bytes in
+  step-share (Reopen numbers) w v r i hv rest =
+      let stays = reopen-stays sound t w numbers in
       untouched w _ v r (ap (λ (x : World). x .state .kept) stays) (ap (λ (x : World). x .cells) stays)
 
   step-rests : (call : Call) (w : World) (v : ℕ) → isBeingWritten (w .asked) v ≡ false → begins call v ≡ false → isBeingWritten (step sound t call w .asked) v ≡ false
@@ -199,7 +199,7 @@ module _ (t : Tables) (is-sound : sound t ≡ true) (c : Consistent t) (power : 
   step-rests (BeginWrite u z) w v rest other = taken-rests (step sound t (BeginWrite u z) w .answer) (w .asked) (ToWrite u z) v rest other
   step-rests (Confirm any) w v rest other = closed-rests (step sound t (Confirm any) w .answer) (w .asked) v rest
   step-rests (Abandon performed) w v rest other = closed-rests (step sound t (Abandon performed) w .answer) (w .asked) v rest
-  step-rests (Reopen bytes) w v rest other = rw (reopen-stays sound t w bytes) rest
+  step-rests (Reopen numbers) w v rest other = rw (reopen-stays sound t w numbers) rest
 
   -- ── any calls ──
 

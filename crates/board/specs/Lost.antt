@@ -23,14 +23,14 @@ use Rattle.board.specs.Middle.{confirmations, setSoFar, UnderWay}
 -- ── a board as it is ──
 
 -- cells and power-on numbers agree on each register that can be read; a station reads those back, and for the others it
--- lends whatever it likes
+-- lends whatever numbers of their widths it likes
 abbrev pub Agree : Tables → Cells → List ℕ → Type 0
-Agree t cells bytes = (r : ℕ) → r < registerCount t → registerHas t reading r ≡ true → getD bytes r 0 ≡ cells r
+Agree t cells numbers = (r : ℕ) → r < registerCount t → registerHas t reading r ≡ true → getD numbers r 0 ≡ cells r
 
 -- the world of an opening, on a board with these cells
-abbrev pub openedOn : {t : Tables} {bytes : List ℕ} → Opening t bytes → Cells → World
-openedOn {t} {bytes} o cells =
-    let outcome = opening sound t bytes (o .lent) in
+abbrev pub openedOn : {t : Tables} {numbers : List ℕ} → Opening t numbers → Cells → World
+openedOn {t} {numbers} o cells =
+    let outcome = opening sound t numbers (o .lent) in
     record { state = outcome .state; cells = cells; offer = none; asked = Nothing; events = []; answer = outcome .answer }
 
 -- no station can tell these worlds apart: they differ at most in cells that cannot be read
@@ -40,12 +40,12 @@ pub record SeenAlike (t : Tables) (w u : World) : Type 0 where
 
 -- demand 3 supposes that "the cells at an opening are its power-on bytes"; where they agree on what can be read, every
 -- call is answered as if they were. So its sentences on reading hold of such a board
-pub record AsItIs (t : Tables) (bytes : List ℕ) (o : Opening t bytes) : Type 0 where
-  pub unseen : (cells : Cells) → Agree t cells bytes → (calls : List Call) → SeenAlike t (after sound t calls (openedOn o cells)) (worldAfter o calls)
-  pub reads-back : (cells : Cells) → Agree t cells bytes → (calls : List Call) (v : ℕ) (z : ℤ) (anys : List ℕ) → Obedient t bytes → Plain t v
+pub record AsItIs (t : Tables) (numbers : List ℕ) (o : Opening t numbers) : Type 0 where
+  pub unseen : (cells : Cells) → Agree t cells numbers → (calls : List Call) → SeenAlike t (after sound t calls (openedOn o cells)) (worldAfter o calls)
+  pub reads-back : (cells : Cells) → Agree t cells numbers → (calls : List Call) (v : ℕ) (z : ℤ) (anys : List ℕ) → Obedient t numbers → Plain t v
       → worldAfter o calls .asked ≡ Nothing → dueAfter o calls v ≡ Gives z → length anys ≡ stepsOf t reading v
       → after sound t (wholeRead v anys) (after sound t calls (openedOn o cells)) .answer ≡ Done z (stepsOf t reading v)
-  pub half-written : (cells : Cells) → Agree t cells bytes → (calls : List Call) (v : ℕ) → Plain t v → worldAfter o calls .asked ≡ Nothing
+  pub half-written : (cells : Cells) → Agree t cells numbers → (calls : List Call) (v : ℕ) → Plain t v → worldAfter o calls .asked ≡ Nothing
       → dueAfter o calls v ≡ HalfWritten → step sound t (BeginRead v) (after sound t calls (openedOn o cells)) .answer ≡ Refused 28
 
 -- ── a loss of power ──
@@ -58,21 +58,21 @@ pub record PowerLost (t : Tables) (power : List ℕ) (o : Opening t power) : Typ
   -- whenever it happens the cells hold numbers of their registers' widths, and any list that is long enough opens the
   -- station again
   pub numbers-again : (calls : List Call) (performed : Bool) (r : ℕ) → r < registerCount t → leftBy t performed (worldAfter o calls) r < 2 ^ registerWidth t r
-  pub opens-again : (bytes : List ℕ) (lent : State) → registerCount t ≤ length bytes → isLong t lent ≡ true → opening sound t bytes lent .answer ≡ Opened
+  pub opens-again : (numbers : List ℕ) (lent : State) → registerCount t ≤ length numbers → isLong t lent ≡ true → opening sound t numbers lent .answer ≡ Opened
   -- a plain variable that was settled reads as before: as its last finished value, or its first power-on bits
-  pub settled-known : (calls : List Call) (performed : Bool) {bytes : List ℕ} (again : Opening t bytes) (v : ℕ)
-      → Agree t (leftBy t performed (worldAfter o calls)) bytes → Plain t v → Settled (worldAfter o calls) v → dueAfter again [] v ≡ dueAfter o calls v
+  pub settled-known : (calls : List Call) (performed : Bool) {numbers : List ℕ} (again : Opening t numbers) (v : ℕ)
+      → Agree t (leftBy t performed (worldAfter o calls)) numbers → Plain t v → Settled (worldAfter o calls) v → dueAfter again [] v ≡ dueAfter o calls v
   -- a plain variable in the middle of its write, settled before it, reads as the new bits in the registers set and the
   -- old ones elsewhere. It is not refused: the mark is lost with the power, and what it reads may be neither value
   -- (proofs/Witness.antt has such a case; Remarks.antt says what helps). Of one that was half-written before, no more is
   -- known than what `half-set` says of the cells
-  pub mixed-known : (calls : List Call) (v : ℕ) (z : ℤ) (u : UnderWay o calls v z) (performed : Bool) {bytes : List ℕ} (again : Opening t bytes)
-      → Agree t (leftBy t performed (worldAfter o calls)) bytes → Plain t v → Settled (worldAfter o (u .before)) v
+  pub mixed-known : (calls : List Call) (v : ℕ) (z : ℤ) (u : UnderWay o calls v z) (performed : Bool) {numbers : List ℕ} (again : Opening t numbers)
+      → Agree t (leftBy t performed (worldAfter o calls)) numbers → Plain t v → Settled (worldAfter o (u .before)) v
       → dueAfter again [] v
       ≡ Gives (decode (kindOf t v) (size t writing v)
       (mixed t v (setSoFar t v (confirmations (u .since)) performed) (encode (size t writing v) z)
       (lastGiven t (powerOn power) (worldAfter o (u .before) .events) v)))
   -- as before, if no register was set
-  pub unset-known : (calls : List Call) (v : ℕ) (z : ℤ) (u : UnderWay o calls v z) {bytes : List ℕ} (again : Opening t bytes)
-      → Agree t (leftBy t false (worldAfter o calls)) bytes → Plain t v → Settled (worldAfter o (u .before)) v → confirmations (u .since) ≡ 0
+  pub unset-known : (calls : List Call) (v : ℕ) (z : ℤ) (u : UnderWay o calls v z) {numbers : List ℕ} (again : Opening t numbers)
+      → Agree t (leftBy t false (worldAfter o calls)) numbers → Plain t v → Settled (worldAfter o (u .before)) v → confirmations (u .since) ≡ 0
       → dueAfter again [] v ≡ dueAfter o (u .before) v

@@ -54,10 +54,10 @@ pub record Remarked (t : Tables) (power : List ℕ) (o : Opening t power) : Type
   pub zero-fits : AllFit t (λ v. pos 0)
   -- with any such list, which may have more: every plain variable is refused as half-written or reads exactly as before
   -- the loss (Lost.antt, `AsItIs`, says how such a due is answered on the board as it is)
-  pub never-mixed : (calls : List Call) (performed : Bool) {bytes : List ℕ} (again : Opening t bytes) (value : ℕ → ℤ) (list : List ℕ)
-      → Agree t (leftBy t performed (worldAfter o calls)) bytes → AllFit t value → Covers t (worldAfter o calls) list → (v : ℕ) → Plain t v
+  pub never-mixed : (calls : List Call) (performed : Bool) {numbers : List ℕ} (again : Opening t numbers) (value : ℕ → ℤ) (list : List ℕ)
+      → Agree t (leftBy t performed (worldAfter o calls)) numbers → AllFit t value → Covers t (worldAfter o calls) list → (v : ℕ) → Plain t v
       → (dueAfter again (remarks value list) v ≡ HalfWritten) ⊎ (dueAfter again (remarks value list) v ≡ dueAfter o calls v)
   -- and a variable of the list is refused; nothing is in hand then
-  pub refused : {bytes : List ℕ} (again : Opening t bytes) (value : ℕ → ℤ) (list : List ℕ) → AllFit t value → (v : ℕ) → Plain t v → Among v list
+  pub refused : {numbers : List ℕ} (again : Opening t numbers) (value : ℕ → ℤ) (list : List ℕ) → AllFit t value → (v : ℕ) → Plain t v → Among v list
       → dueAfter again (remarks value list) v ≡ HalfWritten
-  pub at-rest : {bytes : List ℕ} (again : Opening t bytes) (value : ℕ → ℤ) (list : List ℕ) → worldAfter again (remarks value list) .asked ≡ Nothing
+  pub at-rest : {numbers : List ℕ} (again : Opening t numbers) (value : ℕ → ℤ) (list : List ℕ) → worldAfter again (remarks value list) .asked ≡ Nothing
