@@ -8,7 +8,7 @@
 use std::error::Error;
 use std::{env, fs};
 
-use desfanuk::{Access, Description, Direction, Done, Number, Ports, Station, Stopped};
+use desfanuk::{Access, Described, Description, Direction, Done, Number, Ports, Station, Stopped};
 
 const SCORING: &str = concat!(env!("CARGO_MANIFEST_DIR"), "/../../boards/scoring.devil");
 
@@ -61,17 +61,20 @@ fn ending(ended: Result<Done, Stopped<TimedOut>>) -> String {
 
 /// What happens on a board with this description.
 pub fn story(text: Vec<u8>) -> Result<String, Box<dyn Error>> {
-    let description = Description::load(text)?;
-    let score = description.variable("score").ok_or("it has no score")?;
-    let mut station = Station::open(&description, &vec![0; description.registers()])?;
+    Description::load(text)?.with(at_work)
+}
+
+fn at_work(scoring: Described<'_>) -> Result<String, Box<dyn Error>> {
+    let score = scoring.variable("score").ok_or("it has no score")?;
+    let mut station = Station::open(scoring, &vec![0; scoring.registers()])?;
     let mut board = Board {
         bytes: [0; 4],
         patience: 0,
         is_plugged: true,
         notes: format!(
             "The board has {} registers and {} variables.\n",
-            description.registers(),
-            description.variables()
+            scoring.registers(),
+            scoring.variables()
         ),
     };
     // Each with the value to write, or none to read, and the number of accesses that the board
