@@ -280,7 +280,7 @@ uint32_t desfanuk_sound(const uint32_t *parameters, size_t parameters_len,
  *     operation  the operation in hand, DESFANUK_OPERATION_WORDS
  *
  * Every call tells its answer in `answer` (DESFANUK_ANSWER_WORDS) and returns the refusal's number,
- * or 0. A refusal changes nothing but the words of `answer`; one by 52 also ends the read:
+ * or 0. A refusal changes nothing but the words of `answer`; one by 52 or 54 also ends the read:
  * `operation` is idle then.
  */
 
