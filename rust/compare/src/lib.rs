@@ -1,5 +1,6 @@
 //! The proved implementation, linked from its archive, and what holds it against the second one.
 
+pub mod archive;
 pub mod both;
 pub mod lives;
 pub mod plot;

@@ -1,64 +1,138 @@
-//! What the soak plays: generated texts, damaged tables and lives of stations, in both implementations,
-//! and the inputs that show a difference, made small.
+//! The soak: generated texts, whole and in pieces, damaged tables and lives of stations, played in both
+//! implementations, round after round; and an input that shows a difference, made small.
 
 use std::fmt;
 use std::panic::{self, AssertUnwindSafe};
 
-use desfanuk::raw;
-use second::generate::{self, damaged_tables, run, valid, Random, TableSet};
+use desfanuk::raw::STORE_BYTES;
+use second::generate::{self, calibrated_run, damaged_tables, run, valid, Random, TableSet};
+use second::pieces::script;
 use second::replay::Call;
-use second::{load_into, sound, PARAMETER_WORDS, REGISTER_WORDS, VARIABLE_WORDS};
+use second::{
+    load_into, sound, Pieces, Taken, PARAMETER_WORDS, REGISTER_WORDS, TEXT_BYTES, VARIABLE_WORDS,
+};
 
-use crate::both::{lent, Both};
-use crate::proved;
+use crate::archive::{each, Archive};
+use crate::both::Both;
 
 /// An input that the two implementations must agree on.
 #[derive(Clone)]
 pub enum Input {
     Text(Vec<u8>),
+    /// A text in pieces, and its end.
+    Pieces(Vec<script::Call>),
     Tables(TableSet),
     /// A text, and calls of a station over it.
     Life(Vec<u8>, Vec<Call>),
 }
 
-impl Input {
-    pub const KINDS: [&'static str; 3] = ["texts", "damaged tables", "lives"];
+/// The kinds of inputs, and how many of each are played in a round.
+pub const KINDS: [(&str, usize); 5] = [
+    ("texts", 10),
+    ("texts in pieces", 1),
+    ("damaged tables", 2),
+    ("lives", 1),
+    ("lives with readings in units", 1),
+];
 
-    /// Some input of a kind.
-    pub fn some(random: &mut Random, kind: usize) -> Input {
+/// What differs, and an input that shows it, from which nothing can be left out.
+pub struct Difference {
+    pub kind: &'static str,
+    pub told: String,
+    pub small: Input,
+}
+
+impl fmt::Display for Difference {
+    fn fmt(&self, f: &mut fmt::Formatter<'_>) -> fmt::Result {
+        let Difference { kind, told, small } = self;
+        writeln!(f, "differs, in {kind}: {told}")?;
+        write!(f, "made small:\n{small}")
+    }
+}
+
+/// A soak of an archive: how many of each kind were played so far.
+pub struct Soak {
+    archive: Archive,
+    random: Random,
+    pub played: [u64; KINDS.len()],
+}
+
+impl Soak {
+    pub fn new(archive: Archive, seed: u64) -> Soak {
+        Soak {
+            archive,
+            random: Random::new(seed),
+            played: [0; KINDS.len()],
+        }
+    }
+
+    /// Plays a round, up to a difference.
+    pub fn round(&mut self) -> Option<Difference> {
+        let kinds = KINDS.into_iter().enumerate();
+        let inputs = kinds.flat_map(|(index, (kind, count))| vec![(index, kind); count]);
+        inputs.into_iter().find_map(|(index, kind)| {
+            let input = Input::some(&mut self.random, index);
+            self.played[index] += 1;
+            input.difference(&self.archive)?;
+            let small = input.made_small(&self.archive);
+            let told = small.difference(&self.archive)?;
+            Some(Difference { kind, told, small })
+        })
+    }
+}
+
+impl Input {
+    /// Some input of a kind, by its place among the kinds.
+    fn some(random: &mut Random, kind: usize) -> Input {
         match kind {
             0 => Input::Text(generate::text(random)),
-            1 => Input::Tables(damaged_tables(random)),
+            1 => Input::Pieces(generate::pieces(random)),
+            2 => Input::Tables(damaged_tables(random)),
             _ => {
                 let text = valid(random);
+                let run = [run, calibrated_run][kind - 3];
                 let calls = run(random, &text, 60);
                 Input::Life(text, calls)
             }
         }
     }
 
-    /// What differs, if something does.
-    pub fn difference(&self) -> Option<String> {
-        match self {
-            Input::Text(text) => text_differs(text),
-            Input::Tables(set) => tables_differ(set),
-            Input::Life(text, calls) => life_differs(text, calls),
-        }
+    /// What differs, if something does. An answer that is none, or that left what it must not, is a failed
+    /// assertion of those that play the input.
+    pub fn difference(&self, archive: &Archive) -> Option<String> {
+        let played = panic::catch_unwind(AssertUnwindSafe(|| match self {
+            Input::Text(text) => text_differs(archive, text),
+            Input::Pieces(calls) => pieces_differ(archive, calls),
+            Input::Tables(set) => tables_differ(archive, set),
+            Input::Life(text, calls) => life_differs(archive, text, calls),
+        }));
+        played.unwrap_or_else(|cause| {
+            let told = cause.downcast_ref::<String>().cloned();
+            Some(told.unwrap_or_else(|| "an answer, or what it left".to_string()))
+        })
     }
 
     /// This input without what the difference does not need.
-    pub fn made_small(&self) -> Input {
+    pub fn made_small(&self, archive: &Archive) -> Input {
+        let differs = |input: Input| input.difference(archive).is_some();
         match self {
-            Input::Text(text) => Input::Text(least(text, |text| text_differs(text).is_some())),
+            Input::Text(text) => {
+                Input::Text(least(text, |text| differs(Input::Text(text.to_vec()))))
+            }
+            Input::Pieces(calls) => {
+                Input::Pieces(least(calls, |calls| differs(Input::Pieces(calls.to_vec()))))
+            }
             Input::Tables(set) => {
-                let words = least(&words_of(set), |words| {
-                    tables_differ(&with_words(set, words)).is_some()
-                });
-                Input::Tables(with_words(set, &words))
+                let with = |words: &[Word]| Input::Tables(with_words(set, words));
+                with(&least(&words_of(set), |words| differs(with(words))))
             }
             Input::Life(text, calls) => {
-                let fewer = least(calls, |calls| life_differs(text, calls).is_some());
-                Input::Life(text.clone(), fewer)
+                let calls = least(calls, |calls| {
+                    differs(Input::Life(text.clone(), calls.to_vec()))
+                });
+                let with = |text: &[&[u8]]| Input::Life(text.concat(), calls.clone());
+                let declarations: Vec<&[u8]> = text.split_inclusive(|byte| *byte == b';').collect();
+                with(&least(&declarations, |some| differs(with(some))))
             }
         }
     }
@@ -67,12 +141,16 @@ impl Input {
 impl fmt::Display for Input {
     fn fmt(&self, f: &mut fmt::Formatter<'_>) -> fmt::Result {
         match self {
-            Input::Text(text) => write!(f, "{}", text.escape_ascii()),
+            Input::Text(text) => writeln!(f, "{}", text.escape_ascii()),
+            Input::Pieces(calls) => calls.iter().try_for_each(|call| {
+                let mut line = Vec::new();
+                call.write(&mut line);
+                writeln!(f, "{}", line.escape_ascii())
+            }),
             Input::Tables(set) => {
                 writeln!(f, "words that are not 0, by table and place:")?;
-                words_of(set)
-                    .iter()
-                    .try_for_each(|(table, place, word)| writeln!(f, "{table} {place} {word}"))
+                let mut words = words_of(set).into_iter();
+                words.try_for_each(|(table, place, word)| writeln!(f, "{table} {place} {word}"))
             }
             Input::Life(text, calls) => {
                 writeln!(f, "{}", text.escape_ascii())?;
@@ -82,43 +160,77 @@ impl fmt::Display for Input {
     }
 }
 
-/// Loads a text in both: the answer, and every word of the three tables.
-fn text_differs(text: &[u8]) -> Option<String> {
-    let empty = TableSet {
+/// Tables that hold sevens, a word longer than they need be.
+fn sevens() -> TableSet {
+    TableSet {
         parameters: vec![7; PARAMETER_WORDS + 1],
         registers: vec![7; REGISTER_WORDS + 1],
         variables: vec![7; VARIABLE_WORDS + 1],
-    };
-    let (mut first, mut second) = (empty.clone(), empty);
-    let want = load_into(
-        text,
-        &mut second.parameters,
-        &mut second.registers,
-        &mut second.variables,
-    );
-    let got = proved::load(
-        text,
-        &mut first.parameters,
-        &mut first.registers,
-        &mut first.variables,
-    );
+    }
+}
+
+/// Loads a text in both: the answer, and every word of the three tables.
+fn text_differs(archive: &Archive, text: &[u8]) -> Option<String> {
+    let (mut first, mut second) = (sevens(), sevens());
+    let [parameters, registers, variables] = each(&mut second);
+    let want = load_into(text, parameters, registers, variables);
+    let got = (archive.load)(text, &mut first);
     if got != want {
         return Some(format!("proved {got:?}, second {want:?}"));
     }
     (first != second).then(|| "the words of the tables".to_string())
 }
 
+/// A text in pieces, in both: each answer, and the store, the number taken and the tables behind it.
+fn pieces_differ(archive: &Archive, calls: &[script::Call]) -> Option<String> {
+    let (mut first, mut second) = (sevens(), sevens());
+    let mut stores = [vec![0xA5; STORE_BYTES + 1], vec![0xA5; STORE_BYTES + 1]];
+    let (mut taken, mut pieces) = ([0, 9], Pieces::default());
+    let mut lent = STORE_BYTES + 1;
+    for call in calls {
+        let [one, other] = stores.each_mut().map(|store| &mut store[..lent]);
+        let (got, want) = match call {
+            script::Call::LendShort => {
+                lent = STORE_BYTES - 1;
+                continue;
+            }
+            script::Call::LendAll => {
+                lent = STORE_BYTES + 1;
+                continue;
+            }
+            script::Call::Piece(piece) => (
+                (archive.take_piece)(&first, one, &mut taken, piece),
+                pieces.piece(other, piece),
+            ),
+            script::Call::End => {
+                let [parameters, registers, variables] = each(&mut second);
+                let want = pieces.end(other, parameters, registers, variables);
+                let got = (archive.end_pieces)(one, &mut taken, &mut first);
+                (Taken::Verdict(got), Taken::Verdict(want))
+            }
+        };
+        if got != want {
+            return Some(format!("proved {got}, second {want}"));
+        }
+        let held = pieces.held().unwrap_or(TEXT_BYTES + 1) as u64;
+        if taken != [held, 9] || first != second || stores[0] != stores[1] {
+            return Some("what a call left".to_string());
+        }
+    }
+    None
+}
+
 /// Refusal 20's test of tables.
-fn tables_differ(set: &TableSet) -> Option<String> {
-    let got = raw::sound(proved::words(lent(set)));
+fn tables_differ(archive: &Archive, set: &TableSet) -> Option<String> {
+    let got = (archive.sound)(set);
     let want = sound(&set.parameters, &set.registers, &set.variables);
     (got != want).then(|| format!("sound: proved {got}, second {want}"))
 }
 
-/// Calls of a station, which both make and hold to each other after each.
-fn life_differs(text: &[u8], calls: &[Call]) -> Option<String> {
+/// Calls of a station over an accepted text, which both make and hold to each other after each.
+fn life_differs(archive: &Archive, text: &[u8], calls: &[Call]) -> Option<String> {
     let second::Verdict::Accepted { description } = second::load(text) else {
-        return Some("a text that is to be accepted is refused".to_string());
+        return None;
     };
     let (parameters, registers, variables) = second::tables(&description);
     let set = TableSet {
@@ -127,20 +239,17 @@ fn life_differs(text: &[u8], calls: &[Call]) -> Option<String> {
         variables,
     };
     let (record, marks) = (description.registers.len(), description.variables.len());
-    let mut both = Both::new(&mut Random::new(1), set, record, marks);
-    let played = panic::catch_unwind(AssertUnwindSafe(|| {
-        for call in calls {
-            both.perform(call);
-        }
-    }));
-    played.err().map(|cause| {
-        let told = cause.downcast_ref::<String>().cloned();
-        told.unwrap_or_else(|| "an answer, or what it left".to_string())
-    })
+    let mut both = Both::new(&mut Random::new(1), set, record, marks).over(*archive);
+    for call in calls {
+        both.perform(call);
+    }
+    None
 }
 
-/// The words that are not 0, by table and place; and tables of the same lengths with these alone.
-fn words_of(set: &TableSet) -> Vec<(usize, usize, u32)> {
+/// A word of tables that is not 0: its table, its place, and what it is.
+type Word = (usize, usize, u32);
+
+fn words_of(set: &TableSet) -> Vec<Word> {
     let tables = [&set.parameters, &set.registers, &set.variables];
     let placed = |(table, words): (usize, &Vec<u32>)| {
         let words = words.clone().into_iter().enumerate();
@@ -150,26 +259,23 @@ fn words_of(set: &TableSet) -> Vec<(usize, usize, u32)> {
     all.filter(|(_, _, word)| *word != 0).collect()
 }
 
-fn with_words(set: &TableSet, words: &[(usize, usize, u32)]) -> TableSet {
-    let lengths = [&set.parameters, &set.registers, &set.variables].map(Vec::len);
-    let mut tables = lengths.map(|length| vec![0; length]);
+/// Tables of the same lengths with these words alone.
+fn with_words(set: &TableSet, words: &[Word]) -> TableSet {
+    let mut less = set.clone();
+    let mut tables = each(&mut less);
+    tables.iter_mut().for_each(|table| table.fill(0));
     for (table, place, word) in words {
         tables[*table][*place] = *word;
     }
-    let [parameters, registers, variables] = tables;
-    TableSet {
-        parameters,
-        registers,
-        variables,
-    }
+    less
 }
 
-/// A list from which nothing can be left out, neither one element nor a run of them, so that it is
-/// still such a list.
-pub fn least<T: Clone>(list: &[T], such: impl Fn(&[T]) -> bool) -> Vec<T> {
+/// A list that is still such a list, and is not once any one element is left out.
+fn least<T: Clone>(list: &[T], such: impl Fn(&[T]) -> bool) -> Vec<T> {
     let mut list = list.to_vec();
     let mut run = list.len();
     while run > 0 {
+        let before = list.len();
         let mut at = 0;
         while at < list.len() {
             let mut without = list.clone();
@@ -180,7 +286,10 @@ pub fn least<T: Clone>(list: &[T], such: impl Fn(&[T]) -> bool) -> Vec<T> {
                 at += run;
             }
         }
-        run /= 2;
+        // single elements are tried until none can go
+        if run > 1 || list.len() == before {
+            run /= 2;
+        }
     }
     list
 }
@@ -194,19 +303,15 @@ mod tests {
         let list: Vec<u32> = (0..100).collect();
         let needed = |list: &[u32]| list.contains(&17) && list.contains(&80);
         assert_eq!(least(&list, needed), [17, 80]);
+        // one that can go only once another is gone
+        let in_order = |list: &[u32]| list.contains(&0) || (list == [1, 2]) || list == [2];
+        assert_eq!(least(&[2, 1], |list| !list.is_empty()), [1]);
+        assert_eq!(least(&[0, 1, 2], in_order).len(), 1);
     }
 
     #[test]
     fn words_are_put_back_where_they_were() {
         let set = damaged_tables(&mut Random::new(7));
         assert_eq!(with_words(&set, &words_of(&set)), set);
-    }
-
-    #[test]
-    fn a_difference_is_told() {
-        let text = valid(&mut Random::new(8));
-        let calls = [Call::Open(vec![0; 64]), Call::Abandon];
-        assert_eq!(life_differs(&text, &calls), None);
-        assert!(life_differs(b"", &calls).is_some());
     }
 }

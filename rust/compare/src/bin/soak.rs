@@ -8,20 +8,20 @@ use std::panic;
 use std::process::ExitCode;
 use std::time::{Duration, Instant, SystemTime};
 
-use compare::soak::Input;
-use second::generate::Random;
+use compare::archive::Archive;
+use compare::soak::{Soak, KINDS};
 
 fn main() -> ExitCode {
     let mut words = env::args().skip(1);
     let minutes: Option<f64> = words.next().and_then(|word| word.parse().ok());
     let Some(minutes) = minutes.filter(|minutes| *minutes > 0.0) else {
-        eprintln!("soak MINUTES [SEED]");
+        eprintln!("usage: soak MINUTES [SEED]");
         return ExitCode::from(2);
     };
     let seed: Option<u64> = words.next().and_then(|word| word.parse().ok());
     let seed = seed.unwrap_or_else(now);
     println!("seed {seed}");
-    // a difference in a life is a failed assertion, which is told below
+    // a failed assertion is a difference, which is told below
     panic::set_hook(Box::new(|_| {}));
     soak(seed, Duration::from_secs_f64(60.0 * minutes))
 }
@@ -33,30 +33,23 @@ fn now() -> u64 {
 }
 
 fn soak(seed: u64, time: Duration) -> ExitCode {
-    let mut random = Random::new(seed);
-    let mut played = [0u64; Input::KINDS.len()];
+    let mut soak = Soak::new(Archive::PROVED, seed);
     let begun = Instant::now();
-    while begun.elapsed() < time {
-        for (kind, name) in Input::KINDS.iter().enumerate() {
-            let input = Input::some(&mut random, kind);
-            played[kind] += 1;
-            if let Some(difference) = input.difference() {
-                tell(&played);
-                println!("differs, in {name}: {difference}");
-                let small = input.made_small();
-                let left = small.difference().unwrap_or_default();
-                println!("made small ({left}):\n{small}");
-                return ExitCode::FAILURE;
-            }
-        }
+    let mut difference = None;
+    while difference.is_none() && begun.elapsed() < time {
+        difference = soak.round();
     }
-    tell(&played);
-    println!("nothing differed");
-    ExitCode::SUCCESS
-}
-
-fn tell(played: &[u64]) {
-    for (kind, count) in Input::KINDS.iter().zip(played) {
+    for ((kind, _), count) in KINDS.iter().zip(soak.played) {
         println!("{count:>12} {kind}");
+    }
+    match difference {
+        None => {
+            println!("nothing differed");
+            ExitCode::SUCCESS
+        }
+        Some(difference) => {
+            print!("{difference}");
+            ExitCode::FAILURE
+        }
     }
 }
