@@ -8,6 +8,25 @@ use crate::{raw, Description};
 
 /// A description in use ([`Description::with`]): it finds variables and opens stations, and they belong
 /// to it. No other description in use has this `'d`, and none can be made to have it.
+///
+/// What keeps a station and its variables together has the same `'d`:
+///
+/// ```
+/// use desfanuk::{Described, Station, Variable};
+///
+/// struct Desk<'d> {
+///     station: Station<'d>,
+///     score: Variable<'d>,
+/// }
+///
+/// impl<'d> Desk<'d> {
+///     fn open(scoring: Described<'d>) -> Option<Desk<'d>> {
+///         let score = scoring.variable("score")?;
+///         let station = Station::open(scoring, &vec![0; scoring.registers()]).ok()?;
+///         Some(Desk { station, score })
+///     }
+/// }
+/// ```
 #[derive(Clone, Copy, Debug)]
 pub struct Described<'d> {
     description: &'d Description,
