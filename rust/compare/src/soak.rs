@@ -28,9 +28,9 @@ pub enum Input {
 
 /// The kinds of inputs, and how many of each are played in a round.
 pub const KINDS: [(&str, usize); 5] = [
-    ("texts", 10),
+    ("texts", 20),
     ("texts in pieces", 1),
-    ("damaged tables", 2),
+    ("damaged tables", 4),
     ("lives", 1),
     ("lives with readings in units", 1),
 ];
@@ -91,7 +91,7 @@ impl Input {
             _ => {
                 let text = valid(random);
                 let run = [run, calibrated_run][kind - 3];
-                let calls = run(random, &text, 60);
+                let calls = run(random, &text, 30);
                 Input::Life(text, calls)
             }
         }
@@ -116,23 +116,20 @@ impl Input {
     pub fn made_small(&self, archive: &Archive) -> Input {
         let differs = |input: Input| input.difference(archive).is_some();
         match self {
-            Input::Text(text) => {
-                Input::Text(least(text, |text| differs(Input::Text(text.to_vec()))))
-            }
+            Input::Text(text) => Input::Text(least_text(text, |text| differs(Input::Text(text)))),
             Input::Pieces(calls) => {
-                Input::Pieces(least(calls, |calls| differs(Input::Pieces(calls.to_vec()))))
+                let with = |calls: &[script::Call]| Input::Pieces(calls.to_vec());
+                with(&least(calls, 1, |calls| differs(with(calls))))
             }
             Input::Tables(set) => {
                 let with = |words: &[Word]| Input::Tables(with_words(set, words));
-                with(&least(&words_of(set), |words| differs(with(words))))
+                with(&least(&words_of(set), 1, |words| differs(with(words))))
             }
             Input::Life(text, calls) => {
-                let calls = least(calls, |calls| {
-                    differs(Input::Life(text.clone(), calls.to_vec()))
-                });
-                let with = |text: &[&[u8]]| Input::Life(text.concat(), calls.clone());
-                let declarations: Vec<&[u8]> = text.split_inclusive(|byte| *byte == b';').collect();
-                with(&least(&declarations, |some| differs(with(some))))
+                let with = |calls: &[Call]| Input::Life(text.clone(), calls.to_vec());
+                let calls = least(calls, 1, |calls| differs(with(calls)));
+                let with = |text| Input::Life(text, calls.clone());
+                with(least_text(text, |text| differs(with(text))))
             }
         }
     }
@@ -270,28 +267,46 @@ fn with_words(set: &TableSet, words: &[Word]) -> TableSet {
     less
 }
 
-/// A list that is still such a list, and is not once any one element is left out.
-fn least<T: Clone>(list: &[T], such: impl Fn(&[T]) -> bool) -> Vec<T> {
+/// A list that is still such a list, and is not once an element is left out. Runs of elements are left out
+/// first; those that are no longer than `longest` are tried at every place.
+fn least<T: Clone>(list: &[T], longest: usize, such: impl Fn(&[T]) -> bool) -> Vec<T> {
     let mut list = list.to_vec();
-    let mut run = list.len();
-    while run > 0 {
+    loop {
         let before = list.len();
-        let mut at = 0;
-        while at < list.len() {
-            let mut without = list.clone();
-            without.drain(at..(at + run).min(list.len()));
-            if such(&without) {
-                list = without;
-            } else {
-                at += run;
+        let mut run = list.len();
+        while run > 0 {
+            let step = if run > longest { run } else { 1 };
+            let mut at = 0;
+            while at < list.len() {
+                let mut without = list.clone();
+                without.drain(at..(at + run).min(list.len()));
+                if such(&without) {
+                    list = without;
+                } else {
+                    at += step;
+                }
             }
+            run = if run > longest {
+                longest.max(run / 2)
+            } else {
+                run - 1
+            };
         }
-        // single elements are tried until none can go
-        if run > 1 || list.len() == before {
-            run /= 2;
+        if list.len() == before {
+            return list;
         }
     }
-    list
+}
+
+/// The least of a text: whole declarations are left out, then words and signs, then bytes.
+fn least_text(text: &[u8], such: impl Fn(Vec<u8>) -> bool) -> Vec<u8> {
+    let joined = |parts: &[&[u8]]| such(parts.concat());
+    let declarations: Vec<&[u8]> = text.split_inclusive(|byte| *byte == b';').collect();
+    let text = least(&declarations, 2, joined).concat();
+    let in_one_word = |one: &u8, next: &u8| [one, next].iter().all(|b| b.is_ascii_alphanumeric());
+    let words: Vec<&[u8]> = text.chunk_by(in_one_word).collect();
+    let text = least(&words, 8, joined).concat();
+    least(&text, 1, |bytes| such(bytes.to_vec()))
 }
 
 #[cfg(test)]
@@ -302,11 +317,19 @@ mod tests {
     fn a_list_is_made_small() {
         let list: Vec<u32> = (0..100).collect();
         let needed = |list: &[u32]| list.contains(&17) && list.contains(&80);
-        assert_eq!(least(&list, needed), [17, 80]);
-        // one that can go only once another is gone
-        let in_order = |list: &[u32]| list.contains(&0) || (list == [1, 2]) || list == [2];
-        assert_eq!(least(&[2, 1], |list| !list.is_empty()), [1]);
-        assert_eq!(least(&[0, 1, 2], in_order).len(), 1);
+        assert_eq!(least(&list, 1, needed), [17, 80]);
+        // three that can only go together, and stand at no multiple of three
+        let whole = [0, 1, 2, 3, 4, 5, 6];
+        let such = |list: &[u32]| list == whole || list == [0, 1, 5, 6];
+        assert_eq!(least(&whole, 4, such), [0, 1, 5, 6]);
+        assert_eq!(least(&whole, 1, such), whole);
+    }
+
+    #[test]
+    fn a_text_is_made_small() {
+        let text = b"one; two a, bc; three;";
+        let such = |text: Vec<u8>| text.windows(2).any(|two| two == b"bc");
+        assert_eq!(least_text(text, such), b"bc");
     }
 
     #[test]

@@ -134,9 +134,10 @@ fn a_station_that_rounds_wrongly() {
     let Input::Life(_, calls) = &small else {
         panic!("{small}");
     };
-    assert!(matches!(calls[0], Call::Calibrated(..)), "{small}");
-    let confirmed = calls[1..]
-        .iter()
-        .all(|call| matches!(call, Call::Confirm(_)));
-    assert!(confirmed, "{small}");
+    // before it at most what makes the variable readable
+    let begins = |call: &Call| matches!(call, Call::Calibrated(..));
+    let begun = calls.iter().position(begins).expect("a read in units");
+    let mut rest = calls[begun + 1..].iter();
+    assert!(rest.all(|call| matches!(call, Call::Confirm(_))), "{small}");
+    assert!(calls.len() < 20, "{small}");
 }

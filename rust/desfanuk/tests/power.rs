@@ -136,14 +136,15 @@ fn a_list_of_another_board_is_refused() {
 
 /// The two functions of the pattern, as a file has them behind this prefix.
 fn pattern(text: &str, prefix: &str) -> Vec<String> {
-    let lines = text
-        .lines()
-        .map(|line| line.strip_prefix(prefix).unwrap_or(line).trim_end());
-    lines
-        .filter(|line| *line != "#[rustfmt::skip]")
+    let bare = |line: &str| match line == prefix.trim_end() {
+        true => String::new(),
+        false => line.strip_prefix(prefix).unwrap_or(line).to_string(),
+    };
+    text.lines()
+        .map(bare)
+        .filter(|line| line != "#[rustfmt::skip]")
         .skip_while(|line| !line.starts_with("fn write<'d, P: Ports>("))
-        .take_while(|line| !line.starts_with(['#', '/']) && !line.starts_with("```"))
-        .map(|line| line.strip_prefix("//!").unwrap_or(line).to_string())
+        .take_while(|line| !line.starts_with(['#', '/', '`']))
         .collect()
 }
 
