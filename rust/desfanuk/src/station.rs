@@ -11,7 +11,8 @@ pub enum Direction {
 }
 
 /// The number that a register holds or an access carries: 8, 16 or 32 bits, as the register has
-/// ([`Description::register_width`]). In one that is handed in, bits above the width count as 0.
+/// ([`Description::register_width`](crate::Description::register_width)). In one that is handed in, bits
+/// above the width count as 0.
 pub type Number = u32;
 
 /// One port access.
@@ -118,7 +119,7 @@ impl<'d> Station<'d> {
     }
 
     /// Begins the write of a variable. A value below the least of its type is refused by 27, one
-    /// above the greatest by 55; [`Description::range`] tells both.
+    /// above the greatest by 55; [`Variable::range`] tells both.
     pub fn begin_write(&mut self, variable: Variable<'d>, value: i64) -> Answer {
         let mut answer = [0; ANSWER_WORDS];
         raw::begin_write(
