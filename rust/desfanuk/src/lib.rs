@@ -54,7 +54,8 @@
 //!
 //! A station that is killed between two accesses and has kept its record, marks and operation
 //! performs the access on offer, perhaps for the second time, and confirms it: on registers that are
-//! plain storage all is as if it had not stopped.
+//! plain storage all is as if it had not stopped. (A [`Station`] keeps them as long as it lives; who
+//! calls by [`raw`], or from C, keeps them where he likes.)
 //!
 //! A loss of power takes the marks with it. What is read back then may be half a score and half
 //! another. So a station keeps a list of the variables whose writes are unfinished on storage that

@@ -124,6 +124,34 @@ fn a_station_that_keeps_the_list_never_reads_a_mixture() {
     assert!(mixtures > 0, "without the list, a score that nobody gave");
 }
 
+/// What the manual says of two openings: old bits are put back, and a mixture is read.
+#[test]
+fn two_stations_over_one_board_know_nothing_of_each_other() {
+    let text = include_str!("../../../boards/scoring.devil");
+    let scoring = Description::load(text).expect("a good description");
+    scoring.with(|scoring| {
+        let mut board = Board {
+            cells: [0; 5],
+            left: 6,
+            performs_the_next: false,
+        };
+        let [score, row, seat] =
+            ["score", "row", "seat"].map(|name| scoring.variable(name).expect("it has one"));
+        let [mut one, mut other] =
+            [0; 2].map(|_| Station::open(scoring, &board.cells).expect("five numbers"));
+        let value = |done: Result<Done, Stopped<Dark>>| done.expect("it is done").value;
+        assert_eq!(value(one.write(row, 7, &mut board)), 7);
+        assert_eq!(value(other.write(seat, 3, &mut board)), 3);
+        assert_eq!(value(one.read(row, &mut board)), 0);
+
+        assert_eq!(value(one.write(score, 2741, &mut board)), 2741);
+        let stopped = one.write(score, 3000, &mut board);
+        assert_eq!(stopped, Err(Stopped::Failed(Dark)));
+        board.left = 2;
+        assert_eq!(value(other.read(score, &mut board)), 2997);
+    });
+}
+
 /// A list that is not this description's is refused.
 #[test]
 fn a_list_of_another_board_is_refused() {
