@@ -188,7 +188,10 @@ extern "C" {
 #define DESFANUK_REFUSED_TRIGGER 15
 /* A dot of some register part is mapped in that part by no variable. */
 #define DESFANUK_REFUSED_UNMAPPED 16
-/* The tables are short, or not ones that loading could have filled (recorded names aside). */
+/*
+ * The tables are short; a stored count, reference or flag is out of its range; an unused word is not
+ * zero; or what they describe breaks one of rules 8 to 16 or a size (recorded names aside).
+ */
 #define DESFANUK_REFUSED_UNSOUND 20
 /* The power-on list, the record or the marks are shorter than the tables need. */
 #define DESFANUK_REFUSED_SHORT_RECORD 21
@@ -277,7 +280,8 @@ uint32_t desfanuk_sound(const uint32_t *parameters, size_t parameters_len,
  *     operation  the operation in hand, DESFANUK_OPERATION_WORDS
  *
  * Every call tells its answer in `answer` (DESFANUK_ANSWER_WORDS) and returns the refusal's number,
- * or 0. A refusal changes nothing else, but that one by 52 ends the read: `operation` is idle then.
+ * or 0. A refusal changes nothing but the words of `answer`; one by 52 or 54 also ends the read:
+ * `operation` is idle then.
  */
 
 /*

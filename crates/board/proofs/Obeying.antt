@@ -18,13 +18,14 @@ use Rattle.station.specs.declared.Access.{Access}
 use Rattle.station.specs.Calls.{isAllowed, registerTaken, stepsOf, onOffer}
 use Rattle.station.proofs.Registers.{register-inside, register-has}
 use Rattle.station.proofs.Underway.{writing-allowed}
-use Rattle.board.specs.Board.{put, perform, World, Call, BeginRead, BeginWrite, Confirm, Abandon, step, after}
+use Rattle.board.specs.Board.{put, perform, World, Call, BeginRead, BeginWrite, Confirm, Abandon, Reopen, step, after}
 use Rattle.board.specs.Demand.{Opening, powerOn, worldAfter}
 use Rattle.board.specs.Obedient.{Obedient}
 use Rattle.board.proofs.BoardLaws.{put-same, put-other, byte-taken}
 use Rattle.board.proofs.Ledger.{at}
 use Rattle.board.proofs.Invariant.{byteAt}
 use Rattle.board.proofs.Steps.{InvW, step-keeps, reach-write}
+use Rattle.board.proofs.Reopens.{reopen-stays}
 use Rattle.board.proofs.ReadBack.{AllObey}
 use Rattle.board.proofs.World.{ok, rules, start-holds}
 use Rattle.logic.proofs.Tests.{either}
@@ -78,6 +79,7 @@ module _ (t : Tables) (power : List ℕ) (q : Obedient t power) where
     step-obeys (Confirm any) w i all = offer-obeys w i all
     step-obeys (Abandon true) w i all = offer-obeys w i all
     step-obeys (Abandon false) w i all = all
+    step-obeys (Reopen numbers) w i all = rw (reopen-stays sound t w numbers) all
 
     after-obeys : (calls : List Call) (w : World) → Holding w → AllObey t (w .cells) → AllObey t (after sound t calls w .cells)
     unfolding after

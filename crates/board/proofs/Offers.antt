@@ -14,7 +14,8 @@ use Rattle.station.specs.declared.Operation.{Operation}
 use Rattle.station.specs.declared.Operation.the-variants.{Idle, Reading, Writing}
 use Rattle.station.specs.Calls.{State, Outcome, onOffer, checked, readTests, writeTests, confirmed, abandoned, contradicted, readOn, writeOn, isLast, beginRead, beginWrite, confirm, abandon, gather, registerTaken, keeping, writeAccess}
 use Rattle.station.proofs.Refusals.{unless-cases}
-use Rattle.board.specs.Board.{World, Call, BeginRead, BeginWrite, Confirm, Abandon, brought, standing, step}
+use Rattle.board.proofs.Reopens.{reopen-stays}
+use Rattle.board.specs.Board.{World, Call, BeginRead, BeginWrite, Confirm, Abandon, Reopen, brought, standing, step}
 
 -- the outcome's state has on offer exactly what its answer leaves standing
 abbrev Told : Tables → State → Outcome → Type 0
@@ -85,3 +86,4 @@ module _ (sound : Tables → Bool) (t : Tables) where
   told (BeginWrite v z) w = write-told (w .state) v z
   told (Confirm any) w = confirm-told (w .state) (brought t (onOffer t (w .state) (w .state .operation)) (w .cells) any)
   told (Abandon performed) w = abandon-told (w .state)
+  told (Reopen power) w = rw (reopen-stays sound t (linked w) power) refl

@@ -10,8 +10,9 @@ use Rattle.tables.specs.View.{Tables}
 use Rattle.station.specs.declared.Answer.{Answer}
 use Rattle.station.specs.declared.Answer.the-variants.{Refused, Stopped, Opened, Offer as Offered, Done, Abandoned as Ended}
 use borrow.Author.Tests.{not-true}
-use Rattle.board.specs.Board.{Cells, Event, Finished, Abandoned, Due, Gives, HalfWritten, mustRead, Asked, Nothing, ToRead, ToWrite, takenOn, closed, noted, World, Call, BeginRead, BeginWrite, Confirm, Abandon, step, after}
+use Rattle.board.specs.Board.{Cells, Event, Finished, Abandoned, Due, Gives, HalfWritten, mustRead, Asked, Nothing, ToRead, ToWrite, takenOn, closed, noted, World, Call, BeginRead, BeginWrite, Confirm, Abandon, Reopen, step, after}
 use Rattle.board.specs.Stops.{lastGiven, isHalf, isBeingWritten, Settled, begins, noneBegins}
+use Rattle.board.proofs.Reopens.{reopen-stays}
 use Rattle.logic.proofs.Tests.{both}
 
 abbrev IsHalf : Due → Type 0
@@ -71,7 +72,7 @@ module _ (t : Tables) (power : Cells) where
   noted-same Ended (ToRead u) es v rest = same v es
   noted-same Ended (ToWrite u z) es v rest = other-abandoned v u es rest
 
-closed-rests : (a : Answer) (asked : Asked) (v : ℕ) → isBeingWritten asked v ≡ false → isBeingWritten (closed a asked) v ≡ false
+pub closed-rests : (a : Answer) (asked : Asked) (v : ℕ) → isBeingWritten asked v ≡ false → isBeingWritten (closed a asked) v ≡ false
 closed-rests (Refused n) asked v rest = rest
 closed-rests (Stopped n r) asked v rest = refl
 closed-rests Opened asked v rest = rest
@@ -79,7 +80,7 @@ closed-rests (Offered a) asked v rest = rest
 closed-rests (Done y n) asked v rest = refl
 closed-rests Ended asked v rest = refl
 
-taken-rests : (a : Answer) (asked new : Asked) (v : ℕ) → isBeingWritten asked v ≡ false → isBeingWritten new v ≡ false → isBeingWritten (takenOn a asked new) v ≡ false
+pub taken-rests : (a : Answer) (asked new : Asked) (v : ℕ) → isBeingWritten asked v ≡ false → isBeingWritten new v ≡ false → isBeingWritten (takenOn a asked new) v ≡ false
 taken-rests (Refused n) asked new v old-rests new-rests = old-rests
 taken-rests (Stopped n r) asked new v old-rests new-rests = old-rests
 taken-rests Opened asked new v old-rests new-rests = old-rests
@@ -122,6 +123,10 @@ module _ (sound : Tables → Bool) (t : Tables) (power : Cells) where
         };
         notes = notes;
       }
+  step-settled (Reopen numbers) w v before other = rw (reopen-stays sound t w numbers) (record {
+    settled = record { whole = before .whole; at-rest = before .at-rest };
+    notes = same t power v (w .events);
+  })
 
   pub after-settled : (calls : List Call) (w : World) (v : ℕ) → Settled w v → noneBegins calls v ≡ true → StillSettled w (after sound t calls w) v
   unfolding after noneBegins

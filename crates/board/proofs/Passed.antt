@@ -6,7 +6,7 @@ use mathlib.Core.Bool.{Bool, true}
 use mathlib.Core.List.{List, [], _∷_}
 use Rattle.tables.specs.View.{Tables, sound}
 use Rattle.station.specs.Calls.{State, unless}
-use Rattle.board.specs.Board.{World, Call, BeginRead, BeginWrite, Confirm, Abandon, step, after, opened}
+use Rattle.board.specs.Board.{World, Call, BeginRead, BeginWrite, Confirm, Abandon, Reopen, step, after, opened}
 use Rattle.board.specs.Demand.{Opening, worldAfter}
 
 abbrev pub passed : Tables → Bool
@@ -19,6 +19,7 @@ module _ (t : Tables) (ok : sound t ≡ true) where
   step-passed (BeginWrite v z) w = rw ok
   step-passed (Confirm any) w = rw ok
   step-passed (Abandon performed) w = rw ok
+  step-passed (Reopen power) w = rw ok
 
   pub after-passed : (calls : List Call) (w : World) → after sound t calls w ≡ after passed t calls w
   unfolding after

@@ -1,4 +1,5 @@
--- The scoring board (boards/scoring.devil) as tables of full size: refusal 20's own test accepts them.
+-- Tables of full size with the parameters, registers and variables of boards/scoring.devil, written out by hand; the
+-- names are recorded at place 0. Refusal 20's own test accepts them.
 -- Assumes nothing.
 use mathlib.Core.Path.{_≡_, refl}
 use mathlib.Core.Bool.{true}

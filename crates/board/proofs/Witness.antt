@@ -1,7 +1,7 @@
 -- Demand 3 and what goes beyond it, on the scoring board: every premise is met, and what is said is computed as well.
 -- Assumes nothing.
-use Prim.Native.Nat.{ℕ, zero, suc, _<_, _^_}
-use mathlib.Core.Path.{_≡_, refl, ap, ap₂, _∙_}
+use Prim.Native.Nat.{ℕ, zero, suc, _<_, _≤_, _^_}
+use mathlib.Core.Path.{_≡_, refl, sym, ap, ap₂, _∙_}
 use mathlib.Core.Logic.{inl, inr}
 use mathlib.Core.Bool.{Bool, true, false, true≢false, false≢true}
 use mathlib.Core.List.{List, [], _∷_, _++_}
@@ -19,13 +19,14 @@ use Rattle.station.specs.declared.Answer.the-variants.{Refused, Opened, Done}
 use Rattle.bits.specs.Bits.{bit, numberOf}
 use Rattle.bits.specs.Values.{isBelow, isAbove, inRange, encode, decode}
 use Rattle.station.specs.Calls.{State, cutTo, numbersIn, stepsOf, unless, isLong, isUnderway, isRead, isGathered, isAllowed, ownBit, otherBit, settingsBit, settingsByte, writtenByte, gatheredBit, gather, opening}
-use Rattle.board.specs.Board.{Gives, bitsIn, mustRead, World, Call, BeginRead, BeginWrite, Confirm, Abandon, put, answers, lastWhere, reached, after, opened, wholeRead, wholeWrite}
+use Rattle.board.specs.Board.{Cells, Gives, bitsIn, mustRead, World, Call, BeginRead, BeginWrite, Confirm, Abandon, put, answers, lastWhere, reached, after, opened, wholeRead, wholeWrite}
 use Rattle.board.specs.Demand.{Opening, worldAfter, dueAfter, writesOf, Work, EqualBoards}
 use Rattle.board.specs.Obedient.{Obedient}
-use Rattle.board.specs.Stops.{leftBy, listed, readBack}
+use Rattle.board.specs.Stops.{leftBy}
+use Rattle.board.specs.Lost.{Agree, openedOn}
 use Rattle.board.proofs.Demand3.{demand-3}
-use Rattle.board.proofs.Stops.{power-lost}
-use Rattle.board.proofs.Passed.{passed, after-passed, opened-passed, world-passed}
+use Rattle.board.proofs.Lost.{as-it-is, power-lost}
+use Rattle.board.proofs.Passed.{passed, world-passed}
 use Rattle.board.proofs.Scoring.{scoring, scoring-sound}
 
 -- ── an opening ──
@@ -34,23 +35,27 @@ use Rattle.board.proofs.Scoring.{scoring, scoring-sound}
 abbrev power : List ℕ
 power = 0x07 ∷ 0x34 ∷ 0x5C ∷ 0x7F ∷ 0x00 ∷ []
 
-abbrev lent : State
+abbrev pub lent : State
 lent = record { kept = replicate 5 0; marks = replicate 6 0; operation = Idle }
 
 accepted : opening sound scoring power lent .answer ≡ Opened
 unfolding unless isLong registerCount variableCount scoring
 accepted = rw scoring-sound
 
+-- of the five registers one at a time
+below-five : (P : ℕ → Type 0) → P 0 → P 1 → P 2 → P 3 → P 4 → (r : ℕ) → r < 5 → P r
+below-five P at-0 at-1 at-2 at-3 at-4 zero h = at-0
+below-five P at-0 at-1 at-2 at-3 at-4 (suc zero) h = at-1
+below-five P at-0 at-1 at-2 at-3 at-4 (suc (suc zero)) h = at-2
+below-five P at-0 at-1 at-2 at-3 at-4 (suc (suc (suc zero))) h = at-3
+below-five P at-0 at-1 at-2 at-3 at-4 (suc (suc (suc (suc zero)))) h = at-4
+below-five P at-0 at-1 at-2 at-3 at-4 (suc (suc (suc (suc (suc r))))) h = absurd (omega arith)
+
 power-numbers : (r : ℕ) → r < registerCount scoring → getD power r 0 < 2 ^ registerWidth scoring r
 unfolding registerCount registerWidth scoring
-power-numbers zero h = omega arith
-power-numbers (suc zero) h = omega arith
-power-numbers (suc (suc zero)) h = omega arith
-power-numbers (suc (suc (suc zero))) h = omega arith
-power-numbers (suc (suc (suc (suc zero)))) h = omega arith
-power-numbers (suc (suc (suc (suc (suc r))))) h = absurd (omega arith)
+power-numbers = below-five (λ r. getD power r 0 < 2 ^ registerWidth scoring r) (omega arith) (omega arith) (omega arith) (omega arith) (omega arith)
 
-start : Opening scoring power
+pub start : Opening scoring power
 start = record { lent = lent; accepted = accepted; numbers = power-numbers }
 
 -- ── the plain variables are the score, the row and the seat ──
@@ -61,7 +66,7 @@ below-three P at-0 at-1 at-2 (suc zero) h = at-1
 below-three P at-0 at-1 at-2 (suc (suc zero)) h = at-2
 below-three P at-0 at-1 at-2 (suc (suc (suc v))) h = absurd (not-suc-le-zero (le-of-suc-le-suc (le-of-suc-le-suc (le-of-suc-le-suc h))))
 
-plain : (v : ℕ) → v < 3 → Plain scoring v
+pub plain : (v : ℕ) → v < 3 → Plain scoring v
 unfolding scoring variableCount isVolatile isTrigger variableHas joined downFrom bitsOf
 plain v h =
     record {
@@ -90,14 +95,6 @@ only-these (suc (suc (suc (suc (suc zero))))) p = absurd (false≢true (p .whole
 only-these (suc (suc (suc (suc (suc (suc v)))))) p = let h = p .exists in absurd (omega arith)
 
 -- ── one mask for both parts, and power-on values that obey: the premise of reading back ──
-
-below-five : (P : ℕ → Type 0) → P 0 → P 1 → P 2 → P 3 → P 4 → (r : ℕ) → r < 5 → P r
-below-five P at-0 at-1 at-2 at-3 at-4 zero h = at-0
-below-five P at-0 at-1 at-2 at-3 at-4 (suc zero) h = at-1
-below-five P at-0 at-1 at-2 at-3 at-4 (suc (suc zero)) h = at-2
-below-five P at-0 at-1 at-2 at-3 at-4 (suc (suc (suc zero))) h = at-3
-below-five P at-0 at-1 at-2 at-3 at-4 (suc (suc (suc (suc zero)))) h = at-4
-below-five P at-0 at-1 at-2 at-3 at-4 (suc (suc (suc (suc (suc r))))) h = absurd (omega arith)
 
 -- three registers have both parts; the fourth is only read, with a bit fixed at 0, the fifth only written, with seven
 alike : (bitOf : Part → ℕ → ℕ → Bool) → ((b : ℕ) → bitOf reading 0 b ≡ bitOf writing 0 b) → ((b : ℕ) → bitOf reading 1 b ≡ bitOf writing 1 b)
@@ -201,20 +198,24 @@ boards-differ same =
 
 -- ── and by computation ──
 
-run : List Call → World
+unfoldable pub run : List Call → World
 run calls = after passed scoring calls (opened passed scoring power lent)
 
-run-is : (calls : List Call) → worldAfter start calls ≡ run calls
+pub run-is : (calls : List Call) → worldAfter start calls ≡ run calls
 unfolding run start
 run-is calls = world-passed scoring scoring-sound start calls
 
+-- the cells of the five registers
+abbrev pub fiveCells : Cells → List ℕ
+fiveCells cells = cells 0 ∷ cells 1 ∷ cells 2 ∷ cells 3 ∷ cells 4 ∷ []
+
 left : List Call → List ℕ
-left calls = readBack scoring (worldAfter start calls .cells)
+left calls = fiveCells (worldAfter start calls .cells)
 
 boards-are : (left firstCalls ∷ left secondCalls ∷ []) ≡ (0x0A ∷ 0xBC ∷ 0x39 ∷ 0x7F ∷ 0x00 ∷ []) ∷ (0x0A ∷ 0xBD ∷ 0x39 ∷ 0x7F ∷ 0x00 ∷ []) ∷ []
-unfolding left run scoring listed writesOf after cutTo numbersIn unless isLong isUnderway isRead isGathered isAllowed isBelow isAbove inRange encode decode variableCount registerCount registerWidth registerHas parameterOf offsetOf isDot isOne kindOf variableHas joined downFrom bitsOf size placeOf without mentions registersOf bit numberOf ownBit otherBit settingsBit settingsByte writtenByte gatheredBit gather put answers lastWhere reached obeys
+unfolding left run scoring writesOf after cutTo numbersIn unless isLong isUnderway isRead isGathered isAllowed isBelow isAbove inRange encode decode variableCount registerCount registerWidth registerHas parameterOf offsetOf isDot isOne kindOf variableHas joined downFrom bitsOf size placeOf without mentions registersOf bit numberOf ownBit otherBit settingsBit settingsByte writtenByte gatheredBit gather put answers lastWhere reached obeys
 boards-are =
-    ap₂ (λ (w u : World). readBack scoring (w .cells) ∷ readBack scoring (u .cells) ∷ []) (run-is firstCalls) (run-is secondCalls)
+    ap₂ (λ (w u : World). fiveCells (w .cells) ∷ fiveCells (u .cells) ∷ []) (run-is firstCalls) (run-is secondCalls)
 
 -- the score at power-on; the accident, a stop between its two registers, whatever became of the second; the seat after the row's write was abandoned;
 -- the score when it was written again
@@ -256,31 +257,54 @@ ran-is = refl
 
 -- ── power lost between the two registers of a score: what was 0x123 and was to be 0x456 reads as neither ──
 
-abbrev lostCalls : List Call
+abbrev pub lostCalls : List Call
 lostCalls = wholeWrite 0 (pos 0x123) (7 ∷ 7 ∷ []) ++ (BeginWrite 0 (pos 0x456) ∷ Confirm 7 ∷ [])
 
-abbrev lostPower : List ℕ
-lostPower = readBack scoring (leftBy scoring false (worldAfter start lostCalls))
+abbrev pub lostCells : Cells
+lostCells = leftBy scoring false (worldAfter start lostCalls)
 
-lost-is : lostPower ≡ 0x04 ∷ 0x23 ∷ 0x5C ∷ 0x7F ∷ 0x00 ∷ []
-unfolding run scoring listed after cutTo numbersIn unless isLong isUnderway isRead isGathered isAllowed isBelow isAbove inRange encode decode variableCount registerCount registerWidth registerHas parameterOf offsetOf isDot isOne kindOf variableHas joined downFrom bitsOf size placeOf without mentions registersOf bit numberOf ownBit otherBit settingsBit settingsByte writtenByte gatheredBit gather put answers lastWhere reached obeys
-lost-is = ap (λ (w : World). readBack scoring (leftBy scoring false w)) (run-is lostCalls)
+lost-are : fiveCells lostCells ≡ 0x04 ∷ 0x23 ∷ 0x5C ∷ 0x7F ∷ 0x00 ∷ []
+unfolding run scoring after cutTo numbersIn unless isLong isUnderway isRead isGathered isAllowed isBelow isAbove inRange encode decode variableCount registerCount registerWidth registerHas parameterOf offsetOf isDot isOne kindOf variableHas joined downFrom bitsOf size placeOf without mentions registersOf bit numberOf ownBit otherBit settingsBit settingsByte writtenByte gatheredBit gather put answers lastWhere reached obeys
+lost-are = ap (λ (w : World). fiveCells (leftBy scoring false w)) (run-is lostCalls)
+
+-- four registers are read back; for the fifth, which cannot be read, the station lends a number that it does not hold
+abbrev pub againPower : List ℕ
+againPower = 0x04 ∷ 0x23 ∷ 0x5C ∷ 0x7F ∷ 0x01 ∷ []
+
+pub agree : Agree scoring lostCells againPower
+unfolding scoring registerCount registerHas
+agree =
+    below-five (λ r. registerHas scoring reading r ≡ true → getD againPower r 0 ≡ lostCells r) (λ has. is 0) (λ has. is 1) (λ has. is 2) (λ has. is 3)
+    (λ has. absurd (false≢true has))
+  where
+    is : (r : ℕ) → getD (0x04 ∷ 0x23 ∷ 0x5C ∷ 0x7F ∷ 0x00 ∷ []) r 0 ≡ getD (fiveCells lostCells) r 0
+    is r = ap (λ (cells : List ℕ). getD cells r 0) (sym lost-are)
 
 again-long : isLong scoring lent ≡ true
 unfolding isLong scoring registerCount variableCount
 again-long = refl
 
-again : Opening scoring lostPower
-again =
-    record {
-      lent = lent;
-      accepted = power-lost start .opens-again lostCalls false lent again-long;
-      numbers = power-lost start .numbers-again lostCalls false;
-    }
+again-enough : registerCount scoring ≤ 5
+unfolding scoring registerCount
+again-enough = omega arith
 
-neither : after sound scoring (wholeRead 0 (7 ∷ 7 ∷ [])) (worldAfter again []) .answer ≡ Done (pos 0x423) 2
-unfolding again scoring after cutTo numbersIn unless isLong isUnderway isRead isGathered isAllowed isBelow isAbove inRange encode decode variableCount registerCount registerWidth registerHas parameterOf offsetOf isDot isOne kindOf variableHas joined downFrom bitsOf size placeOf without mentions registersOf bit numberOf ownBit otherBit settingsBit settingsByte writtenByte gatheredBit gather put answers lastWhere reached obeys
-neither =
-    ap (λ (w : World). w .answer) (after-passed scoring scoring-sound (wholeRead 0 (7 ∷ 7 ∷ [])) (opened sound scoring lostPower lent))
-    ∙ ap (λ (w : World). after passed scoring (wholeRead 0 (7 ∷ 7 ∷ [])) w .answer) (opened-passed scoring scoring-sound lostPower lent)
-    ∙ ap (λ (bytes : List ℕ). after passed scoring (wholeRead 0 (7 ∷ 7 ∷ [])) (opened passed scoring bytes lent) .answer) lost-is
+again-numbers : (r : ℕ) → r < registerCount scoring → getD againPower r 0 < 2 ^ registerWidth scoring r
+unfolding scoring registerCount registerWidth
+again-numbers = below-five (λ r. getD againPower r 0 < 2 ^ registerWidth scoring r) (omega arith) (omega arith) (omega arith) (omega arith) (omega arith)
+
+pub again : Opening scoring againPower
+again = record { lent = lent; accepted = power-lost start .opens-again againPower lent again-enough again-long; numbers = again-numbers }
+
+unfoldable pub runAgain : List Call → World
+runAgain calls = after passed scoring calls (opened passed scoring againPower lent)
+
+-- on the board as it is every call is answered as if its cells were the numbers lent
+pub told-again : (calls : List Call) → after sound scoring calls (openedOn again lostCells) .answer ≡ runAgain calls .answer
+unfolding runAgain again
+told-again calls =
+    ap (λ (w : World). w .answer) (as-it-is again .unseen lostCells agree calls .same)
+    ∙ ap (λ (w : World). w .answer) (world-passed scoring scoring-sound again calls)
+
+neither : after sound scoring (wholeRead 0 (7 ∷ 7 ∷ [])) (openedOn again lostCells) .answer ≡ Done (pos 0x423) 2
+unfolding runAgain scoring after cutTo numbersIn unless isLong isUnderway isRead isGathered isAllowed isBelow isAbove inRange encode decode variableCount registerCount registerWidth registerHas parameterOf offsetOf isDot isOne kindOf variableHas joined downFrom bitsOf size placeOf without mentions registersOf bit numberOf ownBit otherBit settingsBit settingsByte writtenByte gatheredBit gather put answers lastWhere reached obeys
+neither = told-again (wholeRead 0 (7 ∷ 7 ∷ []))

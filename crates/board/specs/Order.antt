@@ -11,7 +11,7 @@ use Rattle.tables.specs.View.{Tables, sound}
 use Rattle.station.specs.Calls.{stepsOf}
 use Rattle.board.specs.Board.{Nothing, World, Call, after, wholeWrite}
 use Rattle.board.specs.Demand.{Opening, worldAfter}
-use Rattle.board.specs.Stops.{Takes}
+use Rattle.board.specs.Middle.{Takes}
 
 -- the same board, record and marks
 pub record SameLeft (w u : World) : Type 0 where

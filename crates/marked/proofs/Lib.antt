@@ -5,3 +5,4 @@ pub mod Strides
 pub mod Many
 pub mod Cases
 pub mod Mouse
+pub mod FromText

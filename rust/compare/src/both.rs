@@ -1,12 +1,12 @@
 //! One station over the same tables in both implementations: every call is made in each, and
 //! whatever it answers and leaves must be the same.
 
-use desfanuk::raw;
 use second::generate::{Random, TableSet};
 use second::replay::Call;
 use second::{Answer, Calibration, Operation, Tables};
 
-use crate::proved::{self, ANSWER_WORDS, OPERATION_WORDS};
+use crate::archive::Archive;
+use crate::proved::{self, Lent, ANSWER_WORDS, OPERATION_WORDS};
 
 /// Words behind those that a call may write.
 const GUARD: usize = 3;
@@ -22,6 +22,7 @@ pub fn lent(set: &TableSet) -> Tables<'_> {
 
 /// A record, marks, and how much of each is lent.
 pub struct Both {
+    archive: Archive,
     pub tables: TableSet,
     record: Vec<u32>,
     marks: Vec<u8>,
@@ -44,6 +45,7 @@ impl Both {
         let mut proved_operation = vec![0; OPERATION_WORDS];
         proved_operation.extend((0..GUARD).map(|_| random.number()));
         Both {
+            archive: Archive::PROVED,
             tables,
             lent_record: record.len(),
             lent_marks: marks.len(),
@@ -55,6 +57,11 @@ impl Both {
             calibration: None,
             proved_operation,
         }
+    }
+
+    /// The same, with the station of this archive.
+    pub fn over(self, archive: Archive) -> Both {
+        Both { archive, ..self }
     }
 
     pub fn operation(&self) -> Operation {
@@ -149,28 +156,14 @@ impl Both {
     }
 
     fn proved_call(&mut self, call: &Call, lent_units: Option<Calibration>) -> Answer {
-        let tables = proved::words(lent(&self.tables));
-        let record = &mut self.proved_record[..self.lent_record];
-        let marks = &mut self.proved_marks[..self.lent_marks];
-        let operation = &mut self.proved_operation[..];
-        let mut words = [-77; ANSWER_WORDS + GUARD];
-        let number = match call {
-            Call::Open(power) => raw::open(tables, power, record, marks, operation, &mut words),
-            Call::Read(v) => raw::begin_read(tables, record, marks, operation, *v, &mut words),
-            Call::Write(v, value) => {
-                raw::begin_write(tables, record, marks, operation, *v, *value, &mut words)
-            }
-            Call::Calibrated(v, Calibration { gain, offset }) => raw::begin_read_in_units(
-                tables, record, marks, operation, *v, *gain, *offset, &mut words,
-            ),
-            Call::Confirm(number) => match lent_units {
-                None => raw::confirm(tables, record, marks, operation, *number, &mut words),
-                Some(Calibration { gain, offset }) => raw::confirm_in_units(
-                    tables, record, marks, operation, *number, gain, offset, &mut words,
-                ),
-            },
-            _ => raw::abandon(tables, record, marks, operation, &mut words),
+        let lent = Lent {
+            tables: proved::words(lent(&self.tables)),
+            record: &mut self.proved_record[..self.lent_record],
+            marks: &mut self.proved_marks[..self.lent_marks],
+            operation: &mut self.proved_operation,
         };
+        let mut words = [-77; ANSWER_WORDS + GUARD];
+        let number = (self.archive.station)(lent, call, lent_units, &mut words);
         let (answer, guard) = words.split_at(ANSWER_WORDS);
         assert_eq!(guard, [-77; GUARD], "words behind the answer of {call}");
         let answer = proved::answer_of(answer.try_into().expect("its length"));

@@ -2,7 +2,8 @@
 //! `desfanuk` makes of them is tested apart from it.
 
 use desfanuk::raw;
-use second::{Access, Answer, Loaded, Operation, Part, Tables, Taken};
+use second::replay::Call;
+use second::{Access, Answer, Calibration, Loaded, Operation, Part, Tables, Taken};
 
 pub use desfanuk::raw::{ANSWER_WORDS, OPERATION_WORDS, VERDICT_WORDS};
 
@@ -76,6 +77,42 @@ pub fn verdict_of(words: &[u64; VERDICT_WORDS]) -> Loaded {
             variables: number(variables),
         },
         _ => panic!("no verdict: {words:?}"),
+    }
+}
+
+/// What a call of the station is lent.
+pub struct Lent<'l> {
+    pub tables: raw::Tables<'l>,
+    pub record: &'l mut [u32],
+    pub marks: &'l mut [u8],
+    pub operation: &'l mut [u64],
+}
+
+/// Makes a call of the station, and gives the number returned; a confirmation is in units where a
+/// calibration is lent with it.
+pub fn station(lent: Lent, call: &Call, units: Option<Calibration>, words: &mut [i64]) -> u64 {
+    let Lent {
+        tables,
+        record,
+        marks,
+        operation,
+    } = lent;
+    match call {
+        Call::Open(power) => raw::open(tables, power, record, marks, operation, words),
+        Call::Read(v) => raw::begin_read(tables, record, marks, operation, *v, words),
+        Call::Write(v, value) => {
+            raw::begin_write(tables, record, marks, operation, *v, *value, words)
+        }
+        Call::Calibrated(v, Calibration { gain, offset }) => {
+            raw::begin_read_in_units(tables, record, marks, operation, *v, *gain, *offset, words)
+        }
+        Call::Confirm(number) => match units {
+            None => raw::confirm(tables, record, marks, operation, *number, words),
+            Some(Calibration { gain, offset }) => raw::confirm_in_units(
+                tables, record, marks, operation, *number, gain, offset, words,
+            ),
+        },
+        _ => raw::abandon(tables, record, marks, operation, words),
     }
 }
 

@@ -1,18 +1,18 @@
 //! The station that crate `desfanuk` gives to station software, with the second implementation's
 //! answers.
 
-use desfanuk::{Description, Direction, Refusal};
+use desfanuk::{Described, Direction, Refusal, Variable};
 use second::board::Calls;
 use second::{Access, Answer, Part};
 
 /// A station that is not open before the first opening.
 pub struct Station<'d> {
-    description: &'d Description,
+    description: Described<'d>,
     opened: Option<desfanuk::Station<'d>>,
 }
 
 impl<'d> Station<'d> {
-    pub fn new(description: &'d Description) -> Station<'d> {
+    pub fn new(description: Described<'d>) -> Station<'d> {
         Station {
             description,
             opened: None,
@@ -21,6 +21,10 @@ impl<'d> Station<'d> {
 
     fn station(&mut self) -> &mut desfanuk::Station<'d> {
         self.opened.as_mut().expect("an opening comes first")
+    }
+
+    fn variable(&self, index: usize) -> Variable<'d> {
+        self.description.variable_at(index).expect("a variable")
     }
 }
 
@@ -56,10 +60,12 @@ impl Calls for Station<'_> {
     }
 
     fn begin_read(&mut self, variable: usize) -> Answer {
+        let variable = self.variable(variable);
         answered(self.station().begin_read(variable))
     }
 
     fn begin_write(&mut self, variable: usize, value: i64) -> Answer {
+        let variable = self.variable(variable);
         answered(self.station().begin_write(variable, value))
     }
 

@@ -28,12 +28,14 @@ fn reading_gives_the_value_last_finished() {
         if description.variables.is_empty() {
             continue;
         }
-        let mut station = Station::new(&proved);
-        for _ in 0..3 {
-            watch(&mut random, &description, &mut station, 100, &mut |what| {
-                seen.note(what)
-            });
-        }
+        proved.with(|proved| {
+            let mut station = Station::new(proved);
+            for _ in 0..3 {
+                watch(&mut random, &description, &mut station, 100, &mut |what| {
+                    seen.note(what)
+                });
+            }
+        });
     }
     seen.require(
         "reads on the storage board",
@@ -89,15 +91,17 @@ fn boards_end_equal_exactly_when_the_values_are() {
         let mut ends = Vec::new();
         for values in [&first, &second] {
             random.shuffle(&mut order);
-            let mut station = Station::new(&proved);
-            let mut board = Board::new(&description, &power);
-            assert_eq!(station.open(&power), Answer::Opened);
-            for &index in &order {
-                let begun = station.begin_write(index, values[index]);
-                let ended = to_its_end(&mut random, &mut station, &mut board, begun, 0);
-                assert!(matches!(ended, Ended::Done(value) if value == values[index]));
-            }
-            ends.push(board.cells);
+            ends.push(proved.with(|proved| {
+                let mut station = Station::new(proved);
+                let mut board = Board::new(&description, &power);
+                assert_eq!(station.open(&power), Answer::Opened);
+                for &index in &order {
+                    let begun = station.begin_write(index, values[index]);
+                    let ended = to_its_end(&mut random, &mut station, &mut board, begun, 0);
+                    assert!(matches!(ended, Ended::Done(value) if value == values[index]));
+                }
+                board.cells
+            }));
         }
         let same = order.iter().all(|index| first[*index] == second[*index]);
         assert_eq!(ends[0] == ends[1], same);

@@ -8,7 +8,7 @@
 use std::error::Error;
 use std::{env, fs};
 
-use desfanuk::{Access, Description, Direction, Done, Number, Ports, Station, Stopped};
+use desfanuk::{Access, Described, Description, Direction, Done, Number, Ports, Station, Stopped};
 
 const SCORING: &str = concat!(env!("CARGO_MANIFEST_DIR"), "/../../boards/scoring.devil");
 
@@ -59,38 +59,42 @@ fn ending(ended: Result<Done, Stopped<TimedOut>>) -> String {
     }
 }
 
+/// What is done: its title, the value to write, or none to read, and the number of accesses that the
+/// board answers.
+const STORY: [(&str, Option<i64>, usize); 8] = [
+    ("Write the score 2741.", Some(2741), 2),
+    ("Read it.", None, 2),
+    ("Write 3000, and let the board stop midway.", Some(3000), 1),
+    (
+        "Read the score: its registers hold 2997 now, which nobody gave.",
+        None,
+        2,
+    ),
+    ("Write 3000 again.", Some(3000), 2),
+    ("Read it.", None, 2),
+    ("Write 5000.", Some(5000), 2),
+    ("Write -1.", Some(-1), 2),
+];
+
 /// What happens on a board with this description.
 pub fn story(text: Vec<u8>) -> Result<String, Box<dyn Error>> {
-    let description = Description::load(text)?;
-    let score = description.variable("score").ok_or("it has no score")?;
-    let mut station = Station::open(&description, &vec![0; description.registers()])?;
+    Description::load(text)?.with(at_work)
+}
+
+fn at_work(scoring: Described<'_>) -> Result<String, Box<dyn Error>> {
+    let score = scoring.variable("score").ok_or("it has no score")?;
+    let mut station = Station::open(scoring, &vec![0; scoring.registers()])?;
     let mut board = Board {
         bytes: [0; 4],
         patience: 0,
         is_plugged: true,
         notes: format!(
             "The board has {} registers and {} variables.\n",
-            description.registers(),
-            description.variables()
+            scoring.registers(),
+            scoring.variables()
         ),
     };
-    // Each with the value to write, or none to read, and the number of accesses that the board
-    // answers.
-    let parts = [
-        ("Write the score 2741.", Some(2741), 2),
-        ("Read it.", None, 2),
-        ("Write 3000, and let the board stop midway.", Some(3000), 1),
-        (
-            "Read the score: its registers hold 2997 now, which nobody gave.",
-            None,
-            2,
-        ),
-        ("Write 3000 again.", Some(3000), 2),
-        ("Read it.", None, 2),
-        ("Write 5000.", Some(5000), 2),
-        ("Write -1.", Some(-1), 2),
-    ];
-    for (title, value, patience) in parts {
+    for (title, value, patience) in STORY {
         board.notes += &format!("{title}\n");
         board.patience = patience;
         let ended = match value {

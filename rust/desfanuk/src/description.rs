@@ -153,8 +153,8 @@ impl fmt::Debug for Tables {
     }
 }
 
-/// An accepted text with its tables. Parameters, registers and variables are known by their index,
-/// from 0 in the order of the text.
+/// An accepted text with its tables. Parameters and registers are known by their index, from 0 in the
+/// order of the text; variables are found where it is in use ([`Description::with`]).
 #[derive(Clone, Debug, PartialEq, Eq)]
 pub struct Description {
     text: Vec<u8>,
@@ -200,11 +200,6 @@ impl Description {
         self.tables.variables[0] as usize
     }
 
-    /// The index of the variable of this name.
-    pub fn variable(&self, name: &str) -> Option<usize> {
-        raw::lookup(&self.text, &self.tables.variables, name.as_bytes())
-    }
-
     /// The name of a parameter, if there is one of this index.
     pub fn parameter_name(&self, index: usize) -> Option<&str> {
         self.name(&self.tables.parameters, PARAMETER_ENTRY, index)
@@ -213,11 +208,6 @@ impl Description {
     /// The name of a register, if there is one of this index.
     pub fn register_name(&self, index: usize) -> Option<&str> {
         self.name(&self.tables.registers, REGISTER_ENTRY, index)
-    }
-
-    /// The name of a variable, if there is one of this index.
-    pub fn variable_name(&self, index: usize) -> Option<&str> {
-        self.name(&self.tables.variables, VARIABLE_ENTRY, index)
     }
 
     /// How many bits the port of a parameter has, if there is one of this index: 8, 16 or 32, as all
@@ -231,22 +221,6 @@ impl Description {
         width(&self.tables.registers, REGISTER_ENTRY, register)
     }
 
-    /// The values that a variable's type has, from the least to the greatest, if there is a variable
-    /// of this index. A write of another value is refused: below the least by 27, above the greatest
-    /// by 55.
-    pub fn range(&self, index: usize) -> Option<RangeInclusive<i64>> {
-        if index >= self.variables() {
-            return None;
-        }
-        let [kind, width] = [3, 4].map(|word| self.tables.variables[VARIABLE_ENTRY * index + word]);
-        if kind == SIGNED {
-            let half = 1 << (width - 1);
-            Some(-half..=half - 1)
-        } else {
-            Some(0..=(1 << width) - 1)
-        }
-    }
-
     /// The bits of a number that are not what a register's read mask has fixed, if there is a register
     /// of this index and it can be read. A read that brings such a number is refused by 52.
     pub fn contradicting(&self, register: usize, number: Number) -> Option<Number> {
@@ -256,6 +230,23 @@ impl Description {
         let [has, fixed, ones] =
             [4, 8, 9].map(|word| self.tables.registers[REGISTER_ENTRY * register + word]);
         (has == 1).then_some((number & fixed) ^ ones)
+    }
+
+    /// The name of the variable of this index, which is one of its own.
+    pub(crate) fn variable_name(&self, index: usize) -> &str {
+        let name = self.name(&self.tables.variables, VARIABLE_ENTRY, index);
+        name.expect("a variable of this description")
+    }
+
+    /// The values that the type of this variable has.
+    pub(crate) fn variable_range(&self, index: usize) -> RangeInclusive<i64> {
+        let [kind, width] = [3, 4].map(|word| self.tables.variables[VARIABLE_ENTRY * index + word]);
+        if kind == SIGNED {
+            let half = 1 << (width - 1);
+            -half..=half - 1
+        } else {
+            0..=(1 << width) - 1
+        }
     }
 
     fn name(&self, table: &[u32], entry: usize, index: usize) -> Option<&str> {

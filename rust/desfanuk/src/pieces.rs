@@ -19,7 +19,7 @@ use crate::{Description, Refused, Tables, Verdict};
 /// let mut pieces = Pieces::new();
 /// io::copy(&mut arriving, &mut pieces).expect("within the limit");
 /// let description = pieces.end().expect("a good description");
-/// assert_eq!(description.variable("v"), Some(0));
+/// assert_eq!(description.text().len(), 71);
 /// ```
 #[derive(Clone, Debug)]
 pub struct Pieces {

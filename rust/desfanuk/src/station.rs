@@ -1,7 +1,7 @@
 //! A station: a description in use, with the record, the marks and the operation in hand.
 
 use crate::raw::{self, ANSWER_WORDS, OPERATION_WORDS};
-use crate::{Description, Refusal};
+use crate::{Described, Refusal, Variable};
 
 /// Whether an access reads or writes.
 #[derive(Clone, Copy, Debug, PartialEq, Eq)]
@@ -11,7 +11,8 @@ pub enum Direction {
 }
 
 /// The number that a register holds or an access carries: 8, 16 or 32 bits, as the register has
-/// ([`Description::register_width`]). In one that is handed in, bits above the width count as 0.
+/// ([`Description::register_width`](crate::Description::register_width)). In one that is handed in, bits
+/// above the width count as 0.
 pub type Number = u32;
 
 /// One port access.
@@ -44,24 +45,31 @@ pub enum Answer {
 /// The operation in hand. Its step is the number of its accesses confirmed so far; `gathered` and
 /// `value` are the bits of the variable.
 #[derive(Clone, Copy, Debug, PartialEq, Eq)]
-pub enum Operation {
+pub enum Operation<'d> {
     Idle,
     Reading {
-        variable: usize,
+        variable: Variable<'d>,
         step: usize,
         gathered: u32,
     },
     Writing {
-        variable: usize,
+        variable: Variable<'d>,
         step: usize,
         value: u32,
     },
 }
 
-/// A description in use, from an opening on.
-#[derive(Clone, Debug)]
+/// A description at work on a board, from an opening on: one station to a board (the crate's manual
+/// says what two would mean). So it is not cloned:
+///
+/// ```compile_fail
+/// fn second<'d>(station: &desfanuk::Station<'d>) -> desfanuk::Station<'d> {
+///     station.clone()
+/// }
+/// ```
+#[derive(Debug)]
 pub struct Station<'d> {
-    pub(crate) description: &'d Description,
+    pub(crate) description: Described<'d>,
     pub(crate) record: Vec<Number>,
     pub(crate) marks: Vec<u8>,
     pub(crate) operation: [u64; OPERATION_WORDS],
@@ -70,7 +78,7 @@ pub struct Station<'d> {
 impl<'d> Station<'d> {
     /// Opens a description with the number that each register holds at power-on. Fewer numbers than
     /// registers are refused by 21; what is over is ignored.
-    pub fn open(description: &'d Description, power_on: &[Number]) -> Result<Station<'d>, Refusal> {
+    pub fn open(description: Described<'d>, power_on: &[Number]) -> Result<Station<'d>, Refusal> {
         let mut station = Station {
             description,
             record: vec![0; description.registers()],
@@ -97,29 +105,29 @@ impl<'d> Station<'d> {
     }
 
     /// Begins the read of a variable.
-    pub fn begin_read(&mut self, variable: usize) -> Answer {
+    pub fn begin_read(&mut self, variable: Variable<'d>) -> Answer {
         let mut answer = [0; ANSWER_WORDS];
         raw::begin_read(
             self.description.tables().words(),
             &self.record,
             &self.marks,
             &mut self.operation,
-            variable,
+            variable.index(),
             &mut answer,
         );
         answered(answer)
     }
 
     /// Begins the write of a variable. A value below the least of its type is refused by 27, one
-    /// above the greatest by 55; [`Description::range`] tells both.
-    pub fn begin_write(&mut self, variable: usize, value: i64) -> Answer {
+    /// above the greatest by 55; [`Variable::range`] tells both.
+    pub fn begin_write(&mut self, variable: Variable<'d>, value: i64) -> Answer {
         let mut answer = [0; ANSWER_WORDS];
         raw::begin_write(
             self.description.tables().words(),
             &self.record,
             &self.marks,
             &mut self.operation,
-            variable,
+            variable.index(),
             value,
             &mut answer,
         );
@@ -156,7 +164,7 @@ impl<'d> Station<'d> {
         unless_refused(answer)
     }
 
-    pub fn description(&self) -> &'d Description {
+    pub fn description(&self) -> Described<'d> {
         self.description
     }
 
@@ -166,22 +174,27 @@ impl<'d> Station<'d> {
     }
 
     /// Whether an abandoned write left the variable half-written.
-    pub fn half_written(&self, variable: usize) -> bool {
-        self.marks.get(variable).is_some_and(|mark| *mark != 0)
+    pub fn half_written(&self, variable: Variable<'d>) -> bool {
+        self.marks[variable.index()] != 0
     }
 
-    pub fn operation(&self) -> Operation {
+    pub fn operation(&self) -> Operation<'d> {
         let number = |word: u64| usize::try_from(word).expect("a number of an operation");
+        let variable = |word| {
+            self.description
+                .variable_at(number(word))
+                .expect("a variable")
+        };
         let bits = |word: u64| u32::try_from(word).expect("at most 32 bits");
         match self.operation {
             [0, ..] => Operation::Idle,
-            [1, variable, step, gathered] => Operation::Reading {
-                variable: number(variable),
+            [1, index, step, gathered] => Operation::Reading {
+                variable: variable(index),
                 step: number(step),
                 gathered: bits(gathered),
             },
-            [2, variable, step, value] => Operation::Writing {
-                variable: number(variable),
+            [2, index, step, value] => Operation::Writing {
+                variable: variable(index),
                 step: number(step),
                 value: bits(value),
             },

@@ -3,7 +3,7 @@
 use std::error::Error;
 use std::fmt;
 
-use crate::{Access, Answer, Calibration, InUnits, Number, Refusal, Station};
+use crate::{Access, Answer, Calibration, InUnits, Number, Refusal, Station, Variable};
 
 /// What performs accesses: the station's own way to its ports.
 pub trait Ports {
@@ -129,11 +129,11 @@ impl<F: fmt::Display> fmt::Display for Stopped<F> {
 
 impl<F: fmt::Debug + fmt::Display> Error for Stopped<F> {}
 
-impl Station<'_> {
+impl<'d> Station<'d> {
     /// Reads a variable, access by access.
     pub fn read<P: Ports>(
         &mut self,
-        variable: usize,
+        variable: Variable<'d>,
         ports: &mut P,
     ) -> Result<Done, Stopped<P::Failure>> {
         let begun = self.begin_read(variable);
@@ -143,7 +143,7 @@ impl Station<'_> {
     /// Reads a variable in units, access by access.
     ///
     /// ```
-    /// use desfanuk::{Access, Calibration, Description, Number, Ports, Station};
+    /// use desfanuk::{Access, Calibration, Description, Number, Ports, Reading, Station};
     ///
     /// /// A lamp whose light is 298 steps.
     /// struct Lamp;
@@ -157,15 +157,17 @@ impl Station<'_> {
     /// }
     ///
     /// let lamp = Description::load(include_str!("../../../boards/lamp.devil")).expect("a description");
-    /// let light = lamp.variable("light").expect("it has a light");
-    /// let mut station = Station::open(&lamp, &[0; 3]).expect("a number for each register");
-    /// let lux = Calibration { gain: 0.5, offset: 1024.0 };
-    /// let reading = station.read_in_units(light, lux, &mut Lamp).expect("it is read");
-    /// assert_eq!((reading.value, reading.accesses), (1173.0, 2));
+    /// let reading = lamp.with(|lamp| {
+    ///     let light = lamp.variable("light").expect("it has a light");
+    ///     let mut station = Station::open(lamp, &[0; 3]).expect("a number for each register");
+    ///     let lux = Calibration { gain: 0.5, offset: 1024.0 };
+    ///     station.read_in_units(light, lux, &mut Lamp)
+    /// });
+    /// assert_eq!(reading, Ok(Reading { value: 1173.0, accesses: 2 }));
     /// ```
     pub fn read_in_units<P: Ports>(
         &mut self,
-        variable: usize,
+        variable: Variable<'d>,
         calibration: Calibration,
         ports: &mut P,
     ) -> Result<Reading, Stopped<P::Failure>> {
@@ -194,13 +196,13 @@ impl Station<'_> {
     /// Writes a variable, access by access.
     pub fn write<P: Ports>(
         &mut self,
-        variable: usize,
+        variable: Variable<'d>,
         value: i64,
         ports: &mut P,
     ) -> Result<Done, Stopped<P::Failure>> {
         let begun = self.begin_write(variable, value);
         if let Answer::Refused(refusal @ (Refusal::TooLow | Refusal::TooHigh)) = begun {
-            let range = self.description().range(variable).expect("a variable");
+            let range = variable.range();
             return Err(Stopped::Outside(Outside {
                 refusal,
                 value,

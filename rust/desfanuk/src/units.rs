@@ -2,7 +2,7 @@
 
 use crate::raw::{self, ANSWER_WORDS};
 use crate::station::{answered, Access, Answer, Number, Station};
-use crate::Refusal;
+use crate::{Refusal, Variable};
 
 /// How a reading becomes one in units: the reading, taken exactly, times the gain, rounded once, plus
 /// the offset, rounded once.
@@ -31,17 +31,21 @@ pub enum InUnits {
     Written { value: i64, accesses: usize },
 }
 
-impl Station<'_> {
+impl<'d> Station<'d> {
     /// Begins the read of a variable in units. A gain or an offset that is not finite, and a `bool`,
     /// are refused by 53 ([`Refusal::NoUnits`]) before any access is offered.
-    pub fn begin_read_in_units(&mut self, variable: usize, calibration: Calibration) -> Answer {
+    pub fn begin_read_in_units(
+        &mut self,
+        variable: Variable<'d>,
+        calibration: Calibration,
+    ) -> Answer {
         let mut answer = [0; ANSWER_WORDS];
         raw::begin_read_in_units(
             self.description.tables().words(),
             &self.record,
             &self.marks,
             &mut self.operation,
-            variable,
+            variable.index(),
             calibration.gain.to_bits(),
             calibration.offset.to_bits(),
             &mut answer,

@@ -52,16 +52,18 @@ fn tables_are_loaded_again() {
 fn names_are_looked_up_and_told() {
     let description = Description::load(A).expect("text A");
     assert_eq!(description.text(), A.as_bytes());
-    assert_eq!(description.variable("v"), Some(0));
-    for name in ["", "r", "base", "d", "V", "vv"] {
-        assert_eq!(description.variable(name), None, "{name}");
-    }
     assert_eq!(description.parameter_name(0), Some("base"));
     assert_eq!(description.register_name(0), Some("r"));
-    assert_eq!(description.variable_name(0), Some("v"));
     assert_eq!(description.parameter_name(1), None);
     assert_eq!(description.register_name(1), None);
-    assert_eq!(description.variable_name(1), None);
+    description.with(|a| {
+        let v = a.variable("v").expect("it has a v");
+        assert_eq!((v.index(), v.name(), v.range()), (0, "v", 0..=255));
+        assert_eq!((a.variable_at(0), a.variable_at(1)), (Some(v), None));
+        for name in ["", "r", "base", "d", "V", "vv"] {
+            assert_eq!(a.variable(name), None, "{name}");
+        }
+    });
 }
 
 #[test]
@@ -98,10 +100,13 @@ fn every_board_is_accepted() {
                 variables: description.variables(),
             }
         );
-        for index in 0..description.variables() {
-            let name = description.variable_name(index).expect("its name");
-            assert_eq!(description.variable(name), Some(index));
-        }
+        description.with(|board| {
+            for index in 0..board.variables() {
+                let variable = board.variable_at(index).expect("it is counted");
+                assert_eq!(board.variable(variable.name()), Some(variable));
+                assert_eq!(variable.index(), index);
+            }
+        });
         boards += 1;
     }
     assert!(boards >= 10);

@@ -53,7 +53,8 @@ fn a_reader_is_copied_into_it() {
     let mut pieces = Pieces::new();
     let copied = io::copy(&mut A.as_bytes(), &mut pieces);
     assert_eq!(copied.expect("within the limit"), 71);
-    assert_eq!(pieces.end().expect("text A").variable("v"), Some(0));
+    let description = pieces.end().expect("text A");
+    assert!(description.with(|a| a.variable("v").is_some()));
 
     let mut long = io::Read::take(io::repeat(b' '), 8193);
     let error = io::copy(&mut long, &mut pieces).expect_err("over the limit");
