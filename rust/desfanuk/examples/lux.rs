@@ -9,7 +9,7 @@ use std::convert::Infallible;
 use std::error::Error;
 use std::{env, fs};
 
-use desfanuk::{Access, Calibration, Description, Number, Ports, Station, Stopped};
+use desfanuk::{Access, Calibration, Described, Description, Number, Ports, Station, Stopped};
 
 /// A sensor that gives so many steps: twelve bits, the high eight of them at offset 1.
 struct Sensor(i16);
@@ -29,9 +29,16 @@ pub fn story(
     calibration: Calibration,
     steps: &[i16],
 ) -> Result<String, Box<dyn Error>> {
-    let lamp = Description::load(text)?;
+    Description::load(text)?.with(|lamp| lines(lamp, calibration, steps))
+}
+
+fn lines(
+    lamp: Described,
+    calibration: Calibration,
+    steps: &[i16],
+) -> Result<String, Box<dyn Error>> {
     let light = lamp.variable("light").ok_or("no light to read")?;
-    let mut station = Station::open(&lamp, &vec![0; lamp.registers()])?;
+    let mut station = Station::open(lamp, &vec![0; lamp.registers()])?;
     let mut told = String::new();
     for &steps in steps {
         told += &match station.read_in_units(light, calibration, &mut Sensor(steps)) {
