@@ -46,7 +46,7 @@ unfolding moreDeclarations progressOf
 returns c = (sym (c .before .before .before .before .loop .inv .5 ∙ turn-end _ _ _ _ _ _ (c .before .before .look .ensures) _ (failed (c .before .declares .ensures) (c .if1 .taken))), c .before .before .before .before .loop .inv .6)
 
 declaration-next-requires : tie.Need-declaration-next-requires Inv-loop μ-loop
-declaration-next-requires c κs = c .before .before .before .before .before .before .before .before .before .loop .inv .6
+declaration-next-requires c κs = (c .before .before .before .before .before .before .before .before .before .loop .inv .6, c .before .before .before .before .before .before .before .look .ensures)
 
 sub-room : tie.Need-sub-room Inv-loop μ-loop
 sub-room c = omega (arith, c .before .before .before .before .before .before .before .before .before .before .before .before .before .before .before .before .before .before .before .loop-test .taken)
