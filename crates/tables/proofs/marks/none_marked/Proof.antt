@@ -1,42 +1,44 @@
--- `tables::marks::none_marked` meets its contract: what is gathered so far is the definition at the counter.
-use native.Mathlib.Omega.{arith}
-use Prim.Native.Nat.{_≤_, _-_, _+_}
-use lib.ListN.{getD}
-use lib.Dec.{eqb}
-use denote.Ref.{now}
+-- `tables::marks::none_marked` meets its contract: the loop invariant says that the work that remains gives what the whole work gives.
+use Rattle.tables.proofs.MarkLaws.{free-turn, free-end}
+use Rattle.tables.specs.Marks.{downFrom, free}
+use mathlib.Core.Bool.{_&&_}
 use mathlib.Core.Path.{_≡_, refl, sym, _∙_}
-use Rattle.tables.specs.Every.{every}
-use Rattle.tables.proofs.ZeroLaws.{zeros-every}
-use Rattle.tables.proofs.Laws.{every-none, gathers, gathered}
+use Prim.Native.Nat.{_≤_}
+use native.Mathlib.Omega.{arith}
+use borrow.Author.Needs.{needs}
 use Rattle.tables.proofs.marks.none_marked.Statement.{statement}
 use Rattle.tables.proofs.marks.none_marked.Tie as tie
 
 abbrev Inv-loop : tie.InvT-loop
-Inv-loop map from n ok₀ k₀ ok k = (k ≤ n) × (ok ≡ every k (λ j. eqb (getD map (from + j) 0) 0))
+Inv-loop map from n ok₀ k₀ ok k = (k ≤ n) × ((ok && free map (downFrom from k)) ≡ free map (downFrom from n))
 
 abbrev μ-loop : tie.MeasureT-loop
-μ-loop map from n ok₀ k₀ ok k = n - k
+μ-loop map from n ok₀ k₀ ok k = k
 
 loop-holds : tie.Need-loop-holds Inv-loop μ-loop
-loop-holds c = (omega arith, sym (every-none _))
+loop-holds c = search needs
+
+sub-k : tie.Need-sub-k Inv-loop μ-loop
+sub-k c = search needs
 
 add-ok : tie.Need-add-ok Inv-loop μ-loop
-add-ok c = omega arith
+add-ok c = search needs
 
 shared-slice-read-ok : tie.Need-shared-slice-read-ok Inv-loop μ-loop
-shared-slice-read-ok c = omega arith
-
-add-k : tie.Need-add-k Inv-loop μ-loop
-add-k c = omega arith
+shared-slice-read-ok c = search needs
 
 loop-less : tie.Need-loop-less Inv-loop μ-loop
-loop-less c = omega arith
+loop-less c = search needs
 
 loop-again : tie.Need-loop-again Inv-loop μ-loop
-loop-again c = (omega arith, gathers _ _ (c .before .before .loop .inv .1) refl)
+loop-again c = let a = c .before .before .before .args in
+    let l = c .before .before .loop in
+    (omega arith, free-turn (a .map .now) (a .from) (l .ok) (c .before .loop-test .taken) refl ∙ l .inv .1)
 
 returns : tie.Need-returns Inv-loop μ-loop
-returns c = let x = c .before .before .args in gathered _ (c .before .loop .inv .0) (c .loop-test .left) (c .before .loop .inv .1) ∙ zeros-every (now (x .map)) (x .from) (x .n)
+returns c = let a = c .before .before .args in
+    let l = c .before .loop in
+    sym (free-end (a .map .now) (a .from) (l .ok) (c .loop-test .left)) ∙ l .inv .1
 
 pub none-marked-spec : {M : Type 1} → statement M
 none-marked-spec =
@@ -45,9 +47,9 @@ none-marked-spec =
     Inv-loop
     μ-loop
     loop-holds
+    sub-k
     add-ok
     shared-slice-read-ok
-    add-k
     loop-less
     loop-again
     returns)
