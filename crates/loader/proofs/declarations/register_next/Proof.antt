@@ -41,8 +41,8 @@ returns-2 c = (register-stops _ _ _ _ _ (lt-leb _ _ (c .before .before .before .
 register-judged-requires : tie.Need-register-judged-requires
 register-judged-requires c κs = c .before .before .before .before .before .before .before .before .before .before .before .before .before .before .pre .0
 
-add-t19 : tie.Need-add-t19
-add-t19 c = search needs
+add-t20 : tie.Need-add-t20
+add-t20 c = search needs
 
 same-length : tie.Need-same-length
 same-length c = search needs
@@ -54,4 +54,4 @@ returns-3 : tie.Need-returns-3
 returns-3 c = (register-goes _ _ _ _ _ (lt-leb _ _ (c .before .before .before .before .before .before .before .before .before .before .before .before .before .if1 .left)) (c .before .before .before .before .before .before .before .before .before .before .before .before .register-behind .ensures _ (c .before .before .before .before .before .before .before .before .before .before .before .before .before .before .before .before .before .before .before .before .pre .1)) (c .before .before .before .before .before .before .before .before .before .before .before .fixed-after .ensures) _ _ (c .before .before .before .before .before .before .before .before .before .enum-told .given .1) (c .before .before .before .before .before .register-judged .ensures .0), c .before .before .before .before .before .register-judged .ensures .1)
 
 pub register-next-spec : {M : Type 1} → statement M
-register-next-spec = tie.close (tie.spec extra-after-requires moved-requires returns register-behind-requires fixed-after-requires enum-told enum-told-2 moved-requires-2 returns-2 register-judged-requires add-t19 same-length same-length-2 returns-3)
+register-next-spec = tie.close (tie.spec extra-after-requires moved-requires returns register-behind-requires fixed-after-requires enum-told enum-told-2 moved-requires-2 returns-2 register-judged-requires add-t20 same-length same-length-2 returns-3)
