@@ -37,17 +37,17 @@ use Rattle.loader.specs.Judge.{movedBy}
 use Rattle.loader.specs.Known.{markFrom, markOf, recorded, Known}
 
 -- ---- marks
-mark-from-small : (name : List ℕ) (n : ℕ) → n < 4096 → markFrom n name < 4096
+mark-from-small : (name : List ℕ) (n : ℕ) → n < 2048 → markFrom n name < 2048
 unfolding markFrom
 mark-from-small [] n l = l
-mark-from-small (b ∷ name) n l = mark-from-small name ((31 * n + b) % 4096) (mod-lt (31 * n + b) (omega arith))
+mark-from-small (b ∷ name) n l = mark-from-small name ((37 * n + b) % 2048) (mod-lt (37 * n + b) (omega arith))
 
-pub mark-small : (name : List ℕ) → markOf name < 4096
+pub mark-small : (name : List ℕ) → markOf name < 2048
 unfolding markOf
 mark-small name = mark-from-small name 0 (omega arith)
 
 -- a turn of the loop over a name, and its end
-pub mark-on : (name : List ℕ) (n k : ℕ) → k < length name → markFrom n (drop k name) ≡ markFrom ((31 * n + getD name k 0) % 4096) (drop (k + 1) name)
+pub mark-on : (name : List ℕ) (n k : ℕ) → k < length name → markFrom n (drop k name) ≡ markFrom ((37 * n + getD name k 0) % 2048) (drop (k + 1) name)
 unfolding markFrom
 mark-on name n k l = rw (add-one, drop-cons name k 0 l)
 
@@ -183,7 +183,7 @@ known-fresh text s map place extent known e f t =
     known .fresh (nameOf text place extent) (ap (λ (n : ℕ). getD map n 0) (sym e) ∙ eqb-true (getD map _ 0) 0 (sym f ∙ t))
 
 -- one mark more: a name that has none has another mark than this one, and had none before
-module _ (map : List ℕ) (long : length map ≡ 4096) (name other : List ℕ) (none : getD (set map (markOf other) 1) (markOf name) 0 ≡ 0) where
+module _ (map : List ℕ) (long : length map ≡ 2048) (name other : List ℕ) (none : getD (set map (markOf other) 1) (markOf name) 0 ≡ 0) where
   pub differs : markOf name ≡ markOf other → ⊥
   differs e =
       let one : getD (set map (markOf other) 1) (markOf other) 0 ≡ 1 = getD-set-same map (markOf other) 1 0 (omega (arith, long, mark-small other)) in
@@ -301,12 +301,12 @@ known-moved text ps rs vs map l s e known = rw e known
 -- ---- the heading: the device's name, and the parameters' one by one
 -- what has no mark had none at first, and is none of the first n parameters
 pub record HeadMarks (text ps first map : List ℕ) (n : ℕ) : Type 0 where
-  pub long : length map ≡ 4096
+  pub long : length map ≡ 2048
   pub before : (name : List ℕ) → getD map (markOf name) 0 ≡ 0 → getD first (markOf name) 0 ≡ 0
   pub parameter : (name : List ℕ) → getD map (markOf name) 0 ≡ 0 → (i : ℕ) → i < n → isNamed text ps (36 * i + 1) name ≡ false
 
 module _ (text ps first : List ℕ) where
-  pub heading-first : length first ≡ 4096 → HeadMarks text ps first first 0
+  pub heading-first : length first ≡ 2048 → HeadMarks text ps first first 0
   heading-first long = record { long = long; before = λ name none. none; parameter = λ name none i l. absurd (omega arith) }
 
   pub heading-more : (map : List ℕ) {map′ : List ℕ} (n : ℕ) → HeadMarks text ps first map n → map′ ≡ set map (markOf (recorded text ps (36 * n + 1))) 1
@@ -331,7 +331,7 @@ empty-nothing : (text t : List ℕ) (stride : ℕ) (name : List ℕ) → countOf
 unfolding heldOf
 empty-nothing text t stride name e = each-nothing text t stride name (λ i l. absurd (omega (arith, l, e, min-le-left (countOf t) ((length t - 1) / stride))))
 
-pub heading-known : (text : List ℕ) (j : Judging) (ps blank : List ℕ) {first map : List ℕ} {n held : ℕ} → length blank ≡ 4096
+pub heading-known : (text : List ℕ) (j : Judging) (ps blank : List ℕ) {first map : List ℕ} {n held : ℕ} → length blank ≡ 2048
     → first ≡ set blank (markOf (nameOf text (j .place) (j .extent))) 1 → HeadMarks text ps first map n → held ≡ heldOf 36 ps → held ≤ n
     → (rs vs : List ℕ) → countOf rs ≡ 0 → countOf vs ≡ 0 → Known text (stateOf j ps rs vs) map
 unfolding stateOf

@@ -10,7 +10,7 @@ use Rattle.rules.specs.State.{State}
 -- where a name has its mark: all of its bytes count, so that names which differ in one place seldom share it
 unfoldable pub markFrom : ℕ → List ℕ → ℕ
 markFrom n [] = n
-markFrom n (b ∷ name) = markFrom ((31 * n + b) % 4096) name
+markFrom n (b ∷ name) = markFrom ((37 * n + b) % 2048) name
 
 unfoldable pub markOf : List ℕ → ℕ
 markOf name = markFrom 0 name
@@ -21,5 +21,5 @@ recorded text table at = nameOf text (getD table at 0) (getD table (at + 1) 0)
 
 -- a name without a mark is declared by none
 pub record Known (text : List ℕ) (s : State) (map : List ℕ) : Type 0 where
-  pub long : length map ≡ 4096
+  pub long : length map ≡ 2048
   pub fresh : (name : List ℕ) → getD map (markOf name) 0 ≡ 0 → isDeclared text s name ≡ false

@@ -8,6 +8,7 @@ use rules::fault;
 use rules::register::judge_register;
 use rules::variable::judge_variable;
 use syntax::Register;
+use syntax::Seen;
 use syntax::Step;
 use syntax::Variable;
 use tables::marks::unmarked;
@@ -15,7 +16,7 @@ use tables::words::word;
 ghost use mathlib.Core.Path.{_≡_};
 ghost use lib.ListN.{length};
 ghost use Prim.Native.Nat.{_+_, _<_, _^_};
-ghost use Rattle.syntax.specs.Reader.{fixedAfter};
+ghost use Rattle.syntax.specs.Reader.{seenAt, fixedAfter};
 ghost use Rattle.syntax.specs.Text.{registerWith, variableWith, declarationWith, moreDeclarations, declarationsWith};
 ghost use Rattle.tables.specs.Tables.{countOf};
 ghost use Rattle.rules.specs.State.{stateOf, unlessStopped};
@@ -67,12 +68,14 @@ fn register_judged(
 fn register_next(
     text: &[u8],
     loading: Loading,
+    word: Step,
     parameters: &[u32],
     registers: &mut [u32],
     variables: &[u32],
     known: &mut [u8],
 ) -> Loading
     requires { ⌜ Known (now text) (stateOf (loading .judging) (now parameters) (now registers) (now variables)) (now known) ⌝ }
+    requires { ⌜ word ≡ fixedAfter (now text) 529 (loading .step) ⌝ }
     ensures read { λ r. ⌜ progressOf r (now (parameters .entry)) (now (registers .exit)) (now (variables .entry)) ≡ registerWith (judge (now (text .entry))) (now (text .entry)) (progressOf loading (now (parameters .entry)) (now (registers .entry)) (now (variables .entry))) ⌝ }
     ensures names { λ r. ⌜ Known (now (text .entry)) (stateOf (r .judging) (now (parameters .entry)) (now (registers .exit)) (now (variables .entry))) (now (known .exit)) ⌝ }
 {
@@ -81,7 +84,7 @@ fn register_next(
         let extra = syntax::extra_after(text, REGISTER, from);
         return moved(loading, extra);
     }
-    let one = syntax::register_after(text, from);
+    let one = syntax::register_behind(text, word);
     let after = one.step;
     let end = syntax::fixed_after(text, SEMICOLON, after);
     let Step::At(_) = end else {
@@ -158,6 +161,7 @@ fn with_variable(loading: Loading, judging: Judging, step: Step) -> Loading
 fn variable_due(
     text: &[u8],
     loading: Loading,
+    word: Step,
     parameters: &[u32],
     registers: &[u32],
     variables: &mut [u32],
@@ -167,13 +171,13 @@ fn variable_due(
 ) -> Loading
     requires { ⌜ loading .variables < 128 ⌝ }
     requires { ⌜ Noted (now text) (progressOf loading (now parameters) (now registers) (now variables)) (now reads) (now writes) (now known) ⌝ }
+    requires { ⌜ word ≡ fixedAfter (now text) 537 (loading .step) ⌝ }
     ensures read { λ r. ⌜ progressOf r (now (parameters .entry)) (now (registers .entry)) (now (variables .exit)) ≡ variableWith (judge (now (text .entry))) (now (text .entry)) (progressOf loading (now (parameters .entry)) (now (registers .entry)) (now (variables .entry))) ⌝ }
     ensures noted { λ r. ⌜ Noted (now (text .entry)) (progressOf r (now (parameters .entry)) (now (registers .entry)) (now (variables .exit))) (now (reads .exit)) (now (writes .exit)) (now (known .exit)) ⌝ }
 {
-    let from = loading.step;
     let mut first = [0usize; 40];
     let mut second = [0usize; 40];
-    let one = syntax::variable_after(text, from, &mut first, &mut second);
+    let one = syntax::variable_behind(text, word, &mut first, &mut second);
     let after = one.step;
     let end = syntax::fixed_after(text, SEMICOLON, after);
     let Step::At(_) = end else {
@@ -198,6 +202,7 @@ fn variable_due(
 fn variable_next(
     text: &[u8],
     loading: Loading,
+    word: Step,
     parameters: &[u32],
     registers: &[u32],
     variables: &mut [u32],
@@ -206,6 +211,7 @@ fn variable_next(
     known: &mut [u8],
 ) -> Loading
     requires { ⌜ Noted (now text) (progressOf loading (now parameters) (now registers) (now variables)) (now reads) (now writes) (now known) ⌝ }
+    requires { ⌜ word ≡ fixedAfter (now text) 537 (loading .step) ⌝ }
     ensures read { λ r. ⌜ progressOf r (now (parameters .entry)) (now (registers .entry)) (now (variables .exit)) ≡ variableWith (judge (now (text .entry))) (now (text .entry)) (progressOf loading (now (parameters .entry)) (now (registers .entry)) (now (variables .entry))) ⌝ }
     ensures noted { λ r. ⌜ Noted (now (text .entry)) (progressOf r (now (parameters .entry)) (now (registers .entry)) (now (variables .exit))) (now (reads .exit)) (now (writes .exit)) (now (known .exit)) ⌝ }
 {
@@ -216,6 +222,7 @@ fn variable_next(
     variable_due(
         text,
         loading,
+        word,
         parameters,
         registers,
         variables,
@@ -225,10 +232,11 @@ fn variable_next(
     )
 }
 
-// A register or a variable, by its first word.
+// A register or a variable, by its first word, which was looked at.
 fn declaration_next(
     text: &[u8],
     loading: Loading,
+    seen: Seen,
     parameters: &[u32],
     registers: &mut [u32],
     variables: &mut [u32],
@@ -237,17 +245,20 @@ fn declaration_next(
     known: &mut [u8],
 ) -> Loading
     requires { ⌜ Noted (now text) (progressOf loading (now parameters) (now registers) (now variables)) (now reads) (now writes) (now known) ⌝ }
+    requires { ⌜ seen ≡ seenAt (now text) (loading .step) ⌝ }
     ensures read { λ r. ⌜ progressOf r (now (parameters .entry)) (now (registers .exit)) (now (variables .exit)) ≡ declarationWith (judge (now (text .entry))) (now (text .entry)) (progressOf loading (now (parameters .entry)) (now (registers .entry)) (now (variables .entry))) ⌝ }
     ensures noted { λ r. ⌜ Noted (now (text .entry)) (progressOf r (now (parameters .entry)) (now (registers .exit)) (now (variables .exit))) (now (reads .exit)) (now (writes .exit)) (now (known .exit)) ⌝ }
 {
-    let from = loading.step;
-    let seen = syntax::look(text, from);
     if seen.kind == REGISTER {
-        return register_next(text, loading, parameters, registers, variables, known);
+        let word = seen.past;
+        return register_next(text, loading, word, parameters, registers, variables, known);
     }
+    let from = loading.step;
+    let word = syntax::seen_after(text, VARIABLE, seen, from);
     variable_next(
         text,
         loading,
+        word,
         parameters,
         registers,
         variables,
@@ -283,6 +294,7 @@ fn more_declarations(
         all = declaration_next(
             text,
             all,
+            seen,
             parameters,
             registers,
             variables,
@@ -318,9 +330,12 @@ pub fn declarations_of(
     ensures noted { λ r. ⌜ Noted (now (text .entry)) (progressOf r (now (parameters .entry)) (now (registers .exit)) (now (variables .exit))) (now (reads .exit)) (now (writes .exit)) (now (known .exit)) ⌝ }
 {
     let inside = past(text, loading, OPEN_BRACE);
+    let here = inside.step;
+    let seen = syntax::look(text, here);
     let one = declaration_next(
         text,
         inside,
+        seen,
         parameters,
         registers,
         variables,

@@ -27,7 +27,7 @@ fn mark_of(name: &[u8]) -> usize
     let mut number: usize = 0;
     let mut k = 0;
     while k < name.len() {
-        number = (31 * number + name[k] as usize) % 4096;
+        number = (37 * number + name[k] as usize) % 2048;
         k += 1;
     }
     number
@@ -67,7 +67,7 @@ pub fn mark_entry(text: &[u8], table: &[u32], at: usize, last: Declared, known: 
 
 // Marks the device's name and those of the parameters: no register and no variable is declared yet.
 pub fn mark_heading(text: &[u8], judging: Judging, parameters: &[u32], known: &mut [u8])
-    requires { ⌜ length (now known) ≡ 4096 ⌝ }
+    requires { ⌜ length (now known) ≡ 2048 ⌝ }
     ensures { λ _. ⌜ ((rs vs : List ℕ) → countOf rs ≡ 0 → countOf vs ≡ 0 → Known (now (text .entry)) (stateOf judging (now (parameters .entry)) rs vs) (now (known .exit))) ⌝ }
 {
     mark(known, mark_at(text, judging.place, judging.extent));

@@ -105,7 +105,7 @@ pub fn judge_text(
 {
     let start = at_start();
     let headed = parameters_of(text, start, parameters, registers, variables);
-    let mut known = [0u8; 4096];
+    let mut known = [0u8; 2048];
     mark_heading(text, headed.judging, parameters, &mut known);
     let all = declarations_of(
         text,

@@ -1,8 +1,11 @@
 -- The reading of a whole text, step by step: what the calls of the code come to.
 -- Assumes nothing.
 use Prim.Native.Nat.{ℕ}
-use mathlib.Core.Path.{_≡_, refl, ap, _∙_}
+use mathlib.Core.Path.{_≡_, refl, sym, ap, _∙_}
 use mathlib.Core.List.{List}
+use borrow.Author.Tests.{eq-eqb}
+use Rattle.token.specs.Scan.{scanAt}
+use Rattle.token.specs.Kind.{kindOf}
 use Rattle.syntax.specs.declared.reader.Step.{Step}
 use Rattle.syntax.specs.declared.reader.Step.the-variants.{At, Refused}
 use Rattle.syntax.specs.declared.reader.Named.{Named}
@@ -12,6 +15,12 @@ use lib.ListN.{length}
 use Rattle.syntax.specs.declared.text.Outline.{Outline}
 use Rattle.syntax.specs.Text.{aDevice, counted, taken, movedTo, Progress, idle, bare, headWith, parameterWith, moreParameters, declarationWith, moreDeclarations, parametersWith, declarationsWith, readingWith, reading, outlined}
 use Rattle.syntax.proofs.Folded.{same-outline}
+
+-- a token that was looked at, and is of the kind that is due
+pub seen-past : (text : List ℕ) (kind : ℕ) (s : Step) {seen : Seen} → seen ≡ seenAt text s → seen .kind ≡ kind → seen .past ≡ fixedAfter text kind s
+unfolding seenAt fixedAfter
+seen-past text kind (At at) e k = ap (λ (y : Seen). y .past) e ∙ rw (eq-eqb (kindOf (scanAt text at .token)) kind (sym (ap (λ (y : Seen). y .kind) e) ∙ k))
+seen-past text kind (Refused number place) e k = ap (λ (y : Seen). y .past) e
 
 -- the device itself counts for nothing
 pub device-taken : (o : Outline) (head : Named) (s : Step) → outlined (taken idle (bare o) (aDevice head) s) ≡ outlined (movedTo (bare o) s)

@@ -3,6 +3,27 @@
 use second::generate::{valid, Random};
 use second::TEXT_BYTES;
 
+const NE2000: &[u8] = include_bytes!("../../../boards/ne2000.devil");
+
+/// The rows of docs/TIMES.md: what each is called, and its text.
+pub fn rows() -> Vec<(&'static str, Vec<u8>)> {
+    let middle = differ_in_the_middle();
+    vec![
+        ("4 registers, 1 variable", small()),
+        ("12 registers, 24 variables", registers(12, "", "")),
+        ("generated, about 1,000 bytes", near(1000)),
+        ("boards/ne2000.devil", NE2000.to_vec()),
+        ("64 registers, 128 variables", largest()),
+        ("the same, filled with blanks", filled(largest(), false)),
+        ("the same, with long names", begin_alike(64)),
+        (
+            "the same, names that differ in the middle only",
+            middle.clone(),
+        ),
+        ("that at the limit, by a comment", filled(middle, true)),
+    ]
+}
+
 /// Four registers, and one variable that takes them all.
 pub fn small() -> Vec<u8> {
     b"device d(b:bit[8] port@{0..3}){register p=b:bit[8];register q=b@1:bit[8];\

@@ -15,7 +15,6 @@ use desfanuk::raw::{self, ANSWER_WORDS, OPERATION_WORDS};
 use second::generate::TableSet;
 use second::{Loaded, PARAMETER_WORDS, REGISTER_WORDS, VARIABLE_WORDS};
 
-const NE2000: &[u8] = include_bytes!("../../../../boards/ne2000.devil");
 const ROUNDS: usize = 400;
 /// Calls in one measurement of the station.
 const CALLS: usize = 20;
@@ -129,18 +128,9 @@ fn station_row(name: &str, text: &[u8]) {
 fn rows() {
     println!("| loading | bytes | proved | second | ratio |");
     println!("|---|---|---|---|---|");
-    load_row("4 registers, 1 variable", &texts::small());
-    load_row("12 registers, 24 variables", &texts::registers(12, "", ""));
-    load_row("generated, about 1,000 bytes", &texts::near(1000));
-    load_row("boards/ne2000.devil", NE2000);
-    load_row("64 registers, 128 variables", &texts::largest());
-    let blanks = texts::filled(texts::largest(), false);
-    load_row("the same, filled with blanks", &blanks);
-    load_row("the same, with long names", &texts::begin_alike(64));
-    let middle = texts::differ_in_the_middle();
-    load_row("the same, names that differ in the middle only", &middle);
-    let limit = texts::filled(middle, true);
-    load_row("that at the limit, by a comment", &limit);
+    for (name, text) in texts::rows() {
+        load_row(name, &text);
+    }
     println!();
     println!("| station call | registers | variables | begin_write | confirm | of which the test of tables (20) |");
     println!("|---|---|---|---|---|---|");

@@ -46,7 +46,7 @@ unfolding moreDeclarations progressOf
 returns c = (sym (c .before .before .before .before .loop .inv .5 ∙ turn-end _ _ _ _ _ _ (c .before .before .look .ensures) _ (failed (c .before .declares .ensures) (c .if1 .taken))), c .before .before .before .before .loop .inv .6)
 
 declaration-next-requires : tie.Need-declaration-next-requires Inv-loop μ-loop
-declaration-next-requires c κs = c .before .before .before .before .before .before .before .before .before .loop .inv .6
+declaration-next-requires c κs = (c .before .before .before .before .before .before .before .before .before .loop .inv .6, c .before .before .before .before .before .before .before .look .ensures)
 
 sub-room : tie.Need-sub-room Inv-loop μ-loop
 sub-room c = omega (arith, c .before .before .before .before .before .before .before .before .before .before .before .before .before .before .before .before .before .before .before .loop-test .taken)
@@ -59,11 +59,11 @@ unfolding moreDeclarations progressOf
 loop-again c =
     let one = c .before .before .before .before .before .before .before .before .before .before .declaration-next in
     let l = c .before .before .before .before .before .before .before .before .before .before .before .before .before .before .before .before .before .before .before .before .loop in (
-      one .kept .1 .1 .1 .0 ∙ l .inv .0,
-      one .kept .1 .1 .1 .1 .0 ∙ l .inv .1,
-      one .kept .1 .1 .1 .1 .1 .0 ∙ l .inv .2,
-      one .kept .1 .1 .1 .1 .1 .1 .0 ∙ l .inv .3,
-      one .kept .1 .1 .1 .1 .1 .1 .1 .0 ∙ l .inv .4,
+      one .kept .1 .1 .1 .1 .0 ∙ l .inv .0,
+      one .kept .1 .1 .1 .1 .1 .0 ∙ l .inv .1,
+      one .kept .1 .1 .1 .1 .1 .1 .0 ∙ l .inv .2,
+      one .kept .1 .1 .1 .1 .1 .1 .1 .0 ∙ l .inv .3,
+      one .kept .1 .1 .1 .1 .1 .1 .1 .1 .0 ∙ l .inv .4,
       l .inv .5 ∙ turn-on _ _ _ _ _ _ (c .before .before .before .before .before .before .before .before .before .before .before .before .before .before .before .before .before .before .look .ensures) _ _ _ (omega (arith, c .before .before .before .before .before .before .before .before .before .before .before .before .before .before .before .before .before .before .before .loop-test .taken)) (passed (c .before .before .before .before .before .before .before .before .before .before .before .before .before .before .before .before .before .declares .ensures) (c .before .before .before .before .before .before .before .before .before .before .before .before .before .before .before .before .if1 .left)) (one .ensures .0),
       one .ensures .1,
     )

@@ -18,10 +18,10 @@ moved-requires c κs = search needs
 
 returns : tie.Need-returns
 unfolding registerWith progressOf
-returns c = (moved-to _ _ _ _ _ (c .moved .ensures) ∙ rw (le-leb _ _ (c .before .before .if1 .taken), c .before .extra-after .ensures), known-moved _ _ _ _ _ _ _ (c .moved .ensures) (c .before .before .before .before .before .before .before .before .before .pre))
+returns c = (moved-to _ _ _ _ _ (c .moved .ensures) ∙ rw (le-leb _ _ (c .before .before .if1 .taken), c .before .extra-after .ensures), known-moved _ _ _ _ _ _ _ (c .moved .ensures) (c .before .before .before .before .before .before .before .before .before .pre .0))
 
-register-after-requires : tie.Need-register-after-requires
-register-after-requires c κs = search needs
+register-behind-requires : tie.Need-register-behind-requires
+register-behind-requires c κs = search needs
 
 fixed-after-requires : tie.Need-fixed-after-requires
 fixed-after-requires c κs = search needs
@@ -36,13 +36,13 @@ moved-requires-2 : tie.Need-moved-requires-2
 moved-requires-2 c κs = search needs
 
 returns-2 : tie.Need-returns-2
-returns-2 c = (register-stops _ _ _ _ _ (lt-leb _ _ (c .before .before .before .before .before .if1 .left)) (c .before .before .before .before .register-after .ensures) (c .before .before .before .fixed-after .ensures) (c .before .enum-told2 .given .1) (c .moved2 .ensures), known-moved _ _ _ _ _ _ _ (c .moved2 .ensures) (c .before .before .before .before .before .before .before .before .before .before .before .before .pre))
+returns-2 c = (register-stops _ _ _ _ _ (lt-leb _ _ (c .before .before .before .before .before .if1 .left)) (c .before .before .before .before .register-behind .ensures _ (c .before .before .before .before .before .before .before .before .before .before .before .before .pre .1)) (c .before .before .before .fixed-after .ensures) (c .before .enum-told2 .given .1) (c .moved2 .ensures), known-moved _ _ _ _ _ _ _ (c .moved2 .ensures) (c .before .before .before .before .before .before .before .before .before .before .before .before .pre .0))
 
 register-judged-requires : tie.Need-register-judged-requires
-register-judged-requires c κs = c .before .before .before .before .before .before .before .before .before .before .before .before .before .before .pre
+register-judged-requires c κs = c .before .before .before .before .before .before .before .before .before .before .before .before .before .before .pre .0
 
-add-t19 : tie.Need-add-t19
-add-t19 c = search needs
+add-t20 : tie.Need-add-t20
+add-t20 c = search needs
 
 same-length : tie.Need-same-length
 same-length c = search needs
@@ -51,7 +51,7 @@ same-length-2 : tie.Need-same-length-2
 same-length-2 c = search needs
 
 returns-3 : tie.Need-returns-3
-returns-3 c = (register-goes _ _ _ _ _ (lt-leb _ _ (c .before .before .before .before .before .before .before .before .before .before .before .before .before .if1 .left)) (c .before .before .before .before .before .before .before .before .before .before .before .before .register-after .ensures) (c .before .before .before .before .before .before .before .before .before .before .before .fixed-after .ensures) _ _ (c .before .before .before .before .before .before .before .before .before .enum-told .given .1) (c .before .before .before .before .before .register-judged .ensures .0), c .before .before .before .before .before .register-judged .ensures .1)
+returns-3 c = (register-goes _ _ _ _ _ (lt-leb _ _ (c .before .before .before .before .before .before .before .before .before .before .before .before .before .if1 .left)) (c .before .before .before .before .before .before .before .before .before .before .before .before .register-behind .ensures _ (c .before .before .before .before .before .before .before .before .before .before .before .before .before .before .before .before .before .before .before .before .pre .1)) (c .before .before .before .before .before .before .before .before .before .before .before .fixed-after .ensures) _ _ (c .before .before .before .before .before .before .before .before .before .enum-told .given .1) (c .before .before .before .before .before .register-judged .ensures .0), c .before .before .before .before .before .register-judged .ensures .1)
 
 pub register-next-spec : {M : Type 1} → statement M
-register-next-spec = tie.close (tie.spec extra-after-requires moved-requires returns register-after-requires fixed-after-requires enum-told enum-told-2 moved-requires-2 returns-2 register-judged-requires add-t19 same-length same-length-2 returns-3)
+register-next-spec = tie.close (tie.spec extra-after-requires moved-requires returns register-behind-requires fixed-after-requires enum-told enum-told-2 moved-requires-2 returns-2 register-judged-requires add-t20 same-length same-length-2 returns-3)

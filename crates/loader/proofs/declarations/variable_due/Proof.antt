@@ -14,14 +14,14 @@ use borrow.Author.Needs.{needs}
 use Rattle.loader.proofs.declarations.variable_due.Statement.{statement}
 use Rattle.loader.proofs.declarations.variable_due.Tie as tie
 
-slice-aggregate-variable-after : tie.Need-slice-aggregate-variable-after
-slice-aggregate-variable-after c = search needs
+slice-aggregate-variable-behind : tie.Need-slice-aggregate-variable-behind
+slice-aggregate-variable-behind c = search needs
 
-slice-aggregate-variable-after-2 : tie.Need-slice-aggregate-variable-after-2
-slice-aggregate-variable-after-2 c = search needs
+slice-aggregate-variable-behind-2 : tie.Need-slice-aggregate-variable-behind-2
+slice-aggregate-variable-behind-2 c = search needs
 
-variable-after-requires : tie.Need-variable-after-requires
-variable-after-requires c κs = search needs
+variable-behind-requires : tie.Need-variable-behind-requires
+variable-behind-requires c κs = search needs
 
 fixed-after-requires : tie.Need-fixed-after-requires
 fixed-after-requires c κs = search needs
@@ -37,7 +37,9 @@ moved-requires c κs = search needs
 
 returns : tie.Need-returns
 unfolding progressOf
-returns c = (variable-stops _ _ _ _ _ (lt-leb _ _ (c .before .before .before .before .before .before .before .before .before .before .before .before .before .before .before .before .pre .0)) (c .before .before .before .before .before .before .variable-after .ensures .0) (c .before .before .before .fixed-after .ensures) (c .before .enum-told2 .given .1) (c .moved .ensures), record { ready = ready-still [] _ _ _ _ _ (c .moved .ensures) (c .before .before .before .before .before .before .before .before .before .before .before .before .before .before .before .before .pre .1 .ready); names = known-moved _ _ _ _ _ _ _ (c .moved .ensures) (c .before .before .before .before .before .before .before .before .before .before .before .before .before .before .before .before .pre .1 .names) })
+returns c =
+    let e = c .before .before .before .before .before .before .variable-behind .ensures _ (c .before .before .before .before .before .before .before .before .before .before .before .before .before .before .before .before .pre .1 .1) in
+    (variable-stops _ _ _ _ _ (lt-leb _ _ (c .before .before .before .before .before .before .before .before .before .before .before .before .before .before .before .before .pre .0)) (e .0) (c .before .before .before .fixed-after .ensures) (c .before .enum-told2 .given .1) (c .moved .ensures), record { ready = ready-still [] _ _ _ _ _ (c .moved .ensures) (c .before .before .before .before .before .before .before .before .before .before .before .before .before .before .before .before .pre .1 .0 .ready); names = known-moved _ _ _ _ _ _ _ (c .moved .ensures) (c .before .before .before .before .before .before .before .before .before .before .before .before .before .before .before .before .pre .1 .0 .names) })
 
 slice-aggregate-variable-judged : tie.Need-slice-aggregate-variable-judged
 slice-aggregate-variable-judged c = search needs
@@ -47,7 +49,9 @@ slice-aggregate-variable-judged-2 c = search needs
 
 variable-judged-requires : tie.Need-variable-judged-requires
 unfolding progressOf stateOf
-variable-judged-requires c κs = (judged-asks _ (c .before .before .before .before .before .before .before .before .before .before .before .before .before .before .before .before .before .before .before .before .before .pre .1 .ready) _ (lt-leb _ _ (c .before .before .before .before .before .before .before .before .before .before .before .before .before .before .before .before .before .before .before .before .before .pre .0)) (subst WellRead (sym (c .before .before .before .before .before .before .before .before .before .before .before .variable-after .ensures .0)) (well-read _ _ _ _)), c .before .before .before .before .before .before .before .before .before .before .before .before .before .before .before .before .before .before .before .before .before .pre .1 .names)
+variable-judged-requires c κs =
+    let e = c .before .before .before .before .before .before .before .before .before .before .before .variable-behind .ensures _ (c .before .before .before .before .before .before .before .before .before .before .before .before .before .before .before .before .before .before .before .before .before .pre .1 .1) in
+    (judged-asks _ (c .before .before .before .before .before .before .before .before .before .before .before .before .before .before .before .before .before .before .before .before .before .pre .1 .0 .ready) _ (lt-leb _ _ (c .before .before .before .before .before .before .before .before .before .before .before .before .before .before .before .before .before .before .before .before .before .pre .0)) (subst WellRead (sym (e .0)) (well-read _ _ _ _)), c .before .before .before .before .before .before .before .before .before .before .before .before .before .before .before .before .before .before .before .before .before .pre .1 .0 .names)
 
 with-variable-requires : tie.Need-with-variable-requires
 with-variable-requires c κs = omega (arith, c .before .before .before .before .before .before .before .before .before .before .before .before .before .before .before .before .before .before .before .before .before .before .before .before .before .before .before .before .before .before .pre .0)
@@ -67,12 +71,12 @@ same-length-4 c = search needs
 returns-2 : tie.Need-returns-2
 unfolding progressOf variableMore
 returns-2 c =
-    let e = c .before .before .before .before .before .before .before .before .before .before .before .before .before .before .before .before .before .before .before .before .before .variable-after .ensures in
+    let e = c .before .before .before .before .before .before .before .before .before .before .before .before .before .before .before .before .before .before .before .before .before .variable-behind .ensures _ (c .before .before .before .before .before .before .before .before .before .before .before .before .before .before .before .before .before .before .before .before .before .before .before .before .before .before .before .before .before .before .before .pre .1 .1) in
     let l = lt-leb _ _ (c .before .before .before .before .before .before .before .before .before .before .before .before .before .before .before .before .before .before .before .before .before .before .before .before .before .before .before .before .before .before .before .pre .0) in
     let f = c .before .before .before .before .before .before .before .before .before .before .before .before .before .before .before .before .before .before .fixed-after .ensures in
     let g = c .before .before .before .before .before .before .before .before .before .before .before .before .before .before .before .before .enum-told .given .1 in
     let j = c .before .before .before .before .before .before .before .before .before .variable-judged .ensures in
-    (variable-goes _ _ _ _ _ l (e .0) f _ _ (e .1 .0) (e .1 .1) g (j .0) (c .with-variable .ensures), record { ready = variable-ready _ _ _ _ _ l (e .0) f _ _ (e .1 .0) (e .1 .1) g (j .0) (c .with-variable .ensures) (c .before .before .before .before .before .before .before .before .before .before .before .before .before .before .before .before .before .before .before .before .before .before .before .before .before .before .before .before .before .before .before .pre .1 .ready) (j .1 .0); names = known-still _ _ _ _ _ (ap (λ (l : Loading). l .judging) (c .with-variable .ensures)) (j .1 .1) })
+    (variable-goes _ _ _ _ _ l (e .0) f _ _ (e .1) (e .2) g (j .0) (c .with-variable .ensures), record { ready = variable-ready _ _ _ _ _ l (e .0) f _ _ (e .1) (e .2) g (j .0) (c .with-variable .ensures) (c .before .before .before .before .before .before .before .before .before .before .before .before .before .before .before .before .before .before .before .before .before .before .before .before .before .before .before .before .before .before .before .pre .1 .0 .ready) (j .1 .0); names = known-still _ _ _ _ _ (ap (λ (l : Loading). l .judging) (c .with-variable .ensures)) (j .1 .1) })
 
 pub variable-due-spec : {M : Type 1} → statement M
-variable-due-spec = tie.close (tie.spec slice-aggregate-variable-after slice-aggregate-variable-after-2 variable-after-requires fixed-after-requires enum-told enum-told-2 moved-requires returns slice-aggregate-variable-judged slice-aggregate-variable-judged-2 variable-judged-requires with-variable-requires same-length same-length-2 same-length-3 same-length-4 returns-2)
+variable-due-spec = tie.close (tie.spec slice-aggregate-variable-behind slice-aggregate-variable-behind-2 variable-behind-requires fixed-after-requires enum-told enum-told-2 moved-requires returns slice-aggregate-variable-judged slice-aggregate-variable-judged-2 variable-judged-requires with-variable-requires same-length same-length-2 same-length-3 same-length-4 returns-2)

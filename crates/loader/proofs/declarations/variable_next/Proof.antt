@@ -20,10 +20,10 @@ moved-requires c κs = search needs
 
 returns : tie.Need-returns
 unfolding variableWith progressOf
-returns c = (moved-to _ _ _ _ _ (c .moved .ensures) ∙ rw (le-leb _ _ (c .before .before .if1 .taken), c .before .extra-after .ensures), record { ready = ready-still [] _ _ _ _ _ (c .moved .ensures) (c .before .before .before .before .before .before .before .before .before .before .before .pre .ready); names = known-moved _ _ _ _ _ _ _ (c .moved .ensures) (c .before .before .before .before .before .before .before .before .before .before .before .pre .names) })
+returns c = (moved-to _ _ _ _ _ (c .moved .ensures) ∙ rw (le-leb _ _ (c .before .before .if1 .taken), c .before .extra-after .ensures), record { ready = ready-still [] _ _ _ _ _ (c .moved .ensures) (c .before .before .before .before .before .before .before .before .before .before .before .pre .0 .ready); names = known-moved _ _ _ _ _ _ _ (c .moved .ensures) (c .before .before .before .before .before .before .before .before .before .before .before .pre .0 .names) })
 
 variable-due-requires : tie.Need-variable-due-requires
-variable-due-requires c κs = (omega (arith, c .before .before .before .before .if1 .left), c .before .before .before .before .before .before .before .before .before .before .before .before .before .pre)
+variable-due-requires c κs = (omega (arith, c .before .before .before .before .if1 .left), (c .before .before .before .before .before .before .before .before .before .before .before .before .before .pre .0, c .before .before .before .before .before .before .before .before .before .before .before .before .before .pre .1))
 
 same-length : tie.Need-same-length
 same-length c = search needs

@@ -11,7 +11,7 @@ use Rattle.loader.proofs.known.mark_of.Statement.{statement}
 use Rattle.loader.proofs.known.mark_of.Tie as tie
 
 abbrev Inv-loop : tie.InvT-loop
-Inv-loop name number₀ k₀ number k = (number < 4096) × (markOf name ≡ markFrom number (drop k name))
+Inv-loop name number₀ k₀ number k = (number < 2048) × (markOf name ≡ markFrom number (drop k name))
 
 abbrev μ-loop : tie.MeasureT-loop
 μ-loop name number₀ k₀ number k = length name - k

@@ -19,6 +19,15 @@ Inv-loop map dots from ok₀ b₀ ok b = (b ≤ atOnce) × (ok ≡ every b (λ k
 abbrev μ-loop : tie.MeasureT-loop
 μ-loop map dots from ok₀ b₀ ok b = atOnce - b
 
+add-if1 : tie.Need-add-if1 Inv-loop μ-loop
+add-if1 c = search needs
+
+dots-inside-requires : tie.Need-dots-inside-requires Inv-loop μ-loop
+dots-inside-requires c κs = search needs
+
+returns : tie.Need-returns Inv-loop μ-loop
+returns c = c .dots-inside .ensures
+
 loop-holds : tie.Need-loop-holds Inv-loop μ-loop
 loop-holds c = (search needs, sym (every-none _))
 
@@ -40,8 +49,8 @@ loop-less c = search needs
 loop-again : tie.Need-loop-again Inv-loop μ-loop
 loop-again c = (omega arith, gathers _ _ (c .before .before .before .loop .inv .1) (ap₂ (λ (x y : Bool). not x || not y) (c .before .bit-of .ensures) (c .unmarked .ensures)))
 
-returns : tie.Need-returns Inv-loop μ-loop
-returns c = gathered _ (c .before .loop .inv .0) (c .loop-test .left) (c .before .loop .inv .1)
+returns-2 : tie.Need-returns-2 Inv-loop μ-loop
+returns-2 c = gathered _ (c .before .loop .inv .0) (c .loop-test .left) (c .before .loop .inv .1)
 
 pub low-dots-marked-spec : {M : Type 1} → statement M
 low-dots-marked-spec =
@@ -49,6 +58,9 @@ low-dots-marked-spec =
     (tie.spec
     Inv-loop
     μ-loop
+    add-if1
+    dots-inside-requires
+    returns
     loop-holds
     bit-of-requires
     add-unmarked
@@ -56,4 +68,4 @@ low-dots-marked-spec =
     add-b
     loop-less
     loop-again
-    returns)
+    returns-2)
