@@ -1,9 +1,10 @@
 // A description, explained to the person who writes it. A refused one: where, which rule in plain words, what breaks
-// it, and the line with a caret. An accepted one: a map of its registers and variables. It reads as many bytes as tell
-// a description that is too long.
+// it, the line with a caret, and where the manual has more. An accepted one: a map of its registers and variables. It
+// reads as many bytes as tell a description that is too long.
 mod fault;
 mod further;
 mod rule;
+mod section;
 mod sought;
 mod source;
 
@@ -29,6 +30,7 @@ fn show_refused(
     if (6 <= rule) & (rule <= 15) {
         further::show_further(text, place);
     }
+    section::show_section(rule);
 }
 
 // The tables that loading leaves empty where it refuses are filled again up to the broken rule.
@@ -59,6 +61,7 @@ fn tell(text: &[u8]) {
     write(&line[..end]);
     if 8192 < text.len() {
         rule::show_rule(2);
+        section::show_section(2);
         return;
     }
     explain(text, lines::verdict_on(text));

@@ -11,6 +11,7 @@ use std::fs;
 use std::path::PathBuf;
 
 use compare::programs::{root, written};
+use house::manual::sections;
 
 /// What the program writes on a text.
 fn explained(text: &[u8]) -> String {
@@ -42,11 +43,15 @@ fn hold(folder: &str) -> BTreeSet<u32> {
             path.display(),
             file.display()
         );
-        if let Some(rest) = written.strip_prefix("refused ") {
-            numbers.insert(rest.split(' ').next().unwrap().parse().unwrap());
-        }
+        numbers.extend(refusal(&written));
     }
     numbers
+}
+
+/// The number of the refusal that is explained, if it is one.
+fn refusal(written: &str) -> Option<u32> {
+    let rest = written.strip_prefix("refused ")?;
+    Some(rest.split(' ').next().unwrap().parse().unwrap())
 }
 
 #[test]
@@ -59,6 +64,27 @@ fn every_board_has_its_map() {
 fn every_refusal_is_explained() {
     let numbers = hold("rust/compare/explain");
     assert_eq!(numbers, (3..=16).collect());
+}
+
+/// What is written on a refused text ends by naming the sections of the manual that tell of its refusal.
+#[test]
+fn every_refusal_names_its_sections() {
+    let manual = fs::read_to_string(root().join("docs/DEVIL.md")).unwrap();
+    let mut numbers = BTreeSet::new();
+    let long = vec![b' '; 8193];
+    let stored = texts("rust/compare/explain");
+    for text in stored.iter().map(|p| fs::read(p).unwrap()).chain([long]) {
+        let written = explained(&text);
+        let Some(number) = refusal(&written) else {
+            continue;
+        };
+        let named = sections(&manual, number).join("; ");
+        assert!(!named.is_empty());
+        let last = format!("\n\nsee docs/DEVIL.md: {named}\n");
+        assert!(written.ends_with(&last), "{written}");
+        numbers.insert(number);
+    }
+    assert_eq!(numbers, (2..=16).collect());
 }
 
 /// A map fits a terminal of 80 columns.

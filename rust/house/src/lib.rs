@@ -3,6 +3,7 @@
 
 pub mod documents;
 pub mod examples;
+pub mod manual;
 pub mod functions;
 pub mod proofs;
 pub mod prose;

@@ -1,27 +1,12 @@
 //! The manual, docs/DEVIL.md, has a section for each refusal, under a name that stays.
 
+use house::manual::{numbers, rows, section};
 use house::tree::root;
 use std::collections::BTreeSet;
 use std::fs;
 
 fn read(path: &str) -> String {
     fs::read_to_string(root().join(path)).unwrap()
-}
-
-/// The rows of all tables, each as its cells.
-fn rows(text: &str) -> Vec<Vec<&str>> {
-    let rows = text.lines().filter(|l| l.starts_with("| "));
-    rows.map(|l| l.split('|').map(str::trim).collect())
-        .collect()
-}
-
-/// The numbers of `1, 2, 5` and of `20 to 28, 53`; none where the cell says something else.
-fn numbers(cell: &str) -> Vec<u32> {
-    let spans = cell.split(", ").filter_map(|span| {
-        let (first, last) = span.split_once(" to ").unwrap_or((span, span));
-        Some(first.parse().ok()?..=last.parse().ok()?)
-    });
-    spans.flatten().collect()
 }
 
 /// The anchor of a heading.
@@ -36,7 +21,7 @@ fn every_refusal_has_its_section() {
     let manual = read("docs/DEVIL.md");
     let told = rows(&manual)
         .iter()
-        .filter(|r| r.len() == 5 && r[2].contains("](#"))
+        .filter(|r| section(r).is_some())
         .flat_map(|r| numbers(r[3]))
         .collect();
     assert!(given.len() > 25, "{} refusals", given.len());
