@@ -17,9 +17,10 @@ fn around(declarations: &str) -> String {
     )
 }
 
-fn refused(text: &str) -> Refused {
+fn refused(text: impl AsRef<[u8]>) -> Refused {
+    let text = text.as_ref();
     match Description::load(text) {
-        Ok(_) => panic!("accepted: {text}"),
+        Ok(_) => panic!("accepted: {}", String::from_utf8_lossy(text)),
         Err(refused) => refused,
     }
 }
@@ -166,7 +167,7 @@ fn line_and_column_are_those_of_explain() {
         if path.extension().is_none_or(|end| end != "devil") || !told.starts_with("refused ") {
             continue;
         }
-        let text = fs::read_to_string(&path).expect("a text");
+        let text = fs::read(&path).expect("a text");
         let Refused {
             refusal,
             place,

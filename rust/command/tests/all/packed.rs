@@ -3,7 +3,7 @@
 use std::fs;
 use std::path::{Path, PathBuf};
 
-use crate::started::{is_picture_here, root, shell, Ended};
+use crate::started::{is_picture_here, shell, Ended};
 
 fn scratch() -> PathBuf {
     let folder = Path::new(env!("CARGO_TARGET_TMPDIR")).join("packed");
