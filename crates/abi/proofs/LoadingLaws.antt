@@ -1,5 +1,5 @@
--- A lookup's index fits a word; and a load that keeps the loader's promise, told in words, keeps the promise of the C face.
--- Assumes nothing.
+-- A lookup's index fits a word; and a load that keeps the loader's promise, told in words, keeps the promise of the C
+-- face. Assumes nothing.
 use Prim.Native.Nat.{ℕ, _<_, _^_}
 use mathlib.Core.Path.{_≡_, _∙_, refl, ap, subst}
 use mathlib.Core.Bool.{Bool, true, false, cond}

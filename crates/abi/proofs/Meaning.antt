@@ -1,5 +1,5 @@
--- What words mean: an operation comes back from its words, no two answers have the same ones, words that are no operation are refused by 22, and no
--- call's promise leaves room for a second answer.
+-- What words mean: an operation comes back from its words, no two answers have the same ones, words that are no
+-- operation are refused by 22, and no call's promise leaves room for a second answer.
 -- Assumes nothing.
 use Prim.Native.Nat.{ℕ, _≤_, _<_, _^_}
 use mathlib.Core.Path.{_≡_, _∙_, refl, sym, ap}

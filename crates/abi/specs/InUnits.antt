@@ -47,7 +47,8 @@ pub record ToldIn (answer : InUnits) (operation : Operation) (lentOperation : Li
   pub answer-is : answerAfter ≡ written (unitWords answer) lentAnswer
   pub number-is : number ≡ unitNumber answer
 
--- a confirmation in units with this outcome, lent these words, leaves this record, these marks and these words, and returns this number
+-- a confirmation in units with this outcome, lent these words, leaves this record, these marks and these words, and
+-- returns this number
 pub record TellsIn (o : Told) (operation : List ℕ) (answer : List ℤ)
     (kept marks : List ℕ) (operationAfter : List ℕ) (answerAfter : List ℤ) (number : ℕ) : Type 0 where
   pub kept-is : kept ≡ o .state .kept

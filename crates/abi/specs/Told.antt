@@ -24,7 +24,8 @@ isLeft Ended = false
 unfoldable pub operationLeft : Answer → Operation → List ℕ → List ℕ
 operationLeft answer operation words = cond (isLeft answer) words (written (operationWords operation) words)
 
--- a call with this outcome, lent these words for the operation and the answer, leaves this record, these marks and these words, and returns this number
+-- a call with this outcome, lent these words for the operation and the answer, leaves this record, these marks and
+-- these words, and returns this number
 pub record Tells (o : Outcome) (operation : List ℕ) (answer : List ℤ)
     (kept marks : List ℕ) (operationAfter : List ℕ) (answerAfter : List ℤ) (number : ℕ) : Type 0 where
   pub kept-is : kept ≡ o .state .kept

@@ -20,14 +20,16 @@ written [] lent = lent
 written (word ∷ words) [] = []
 written (word ∷ words) (old ∷ lent) = word ∷ written words lent
 
--- ── the operation in hand: its kind (0 none, 1 a read, 2 a write), the variable, the step, and the bits gathered or to be written ──
+-- ── the operation in hand: its kind (0 none, 1 a read, 2 a write), the variable, the step, and the bits gathered or to
+-- be written ──
 
 abbrev pub operationWords : Operation → List ℕ
 operationWords Idle = 0 ∷ 0 ∷ 0 ∷ 0 ∷ []
 operationWords (Reading variable step gathered) = 1 ∷ variable ∷ step ∷ gathered ∷ []
 operationWords (Writing variable step value) = 2 ∷ variable ∷ step ∷ value ∷ []
 
--- words that are no operation stand for the read of a variable that no tables have: it is not one that these tables allow (22)
+-- words that are no operation stand for the read of a variable that no tables have: it is not one that these tables
+-- allow (22)
 abbrev pub noOperation : Operation
 noOperation = Reading (2 ^ 32) 0 0
 

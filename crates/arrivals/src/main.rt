@@ -1,7 +1,7 @@
-// Plays scripts of pieces from standard input and writes what each call answers, a line each: `piece N` with N bytes and
-// a newline behind it, `end`, `lend short` for a store that is a byte too short, and `lend all`. The input is one script,
-// or framed ones, each of which begins afresh. rust/second/README.md says what a line may be. Of an input longer than the
-// buffer no more is read.
+// Plays scripts of pieces from standard input and writes what each call answers, a line each: `piece N` with N bytes
+// and a newline behind it, `end`, `lend short` for a store that is a byte too short, and `lend all`. The input is one
+// script, or framed ones, each of which begins afresh. rust/second/README.md says what a line may be. Of an input
+// longer than the buffer no more is read.
 use frames::Frame;
 use loader::Verdict;
 use pieces::Reply;

@@ -1,4 +1,5 @@
--- A value is exactly one of three: below the least of its type, in range, or above the greatest. For any kind and any width.
+-- A value is exactly one of three: below the least of its type, in range, or above the greatest. For any kind and any
+-- width.
 use Prim.Native.Nat.{ℕ, zero, suc}
 use mathlib.Core.Path.{_≡_, refl, sym, ap, ap₂, _∙_}
 use mathlib.Core.Bool.{Bool, true, false, not, cond, _&&_}
@@ -16,7 +17,8 @@ leb-not a b = go (ltb b a) refl
     go true e = lt-leb a b (ltb-true b a e)
     go false e = le-leb a b (ltb-false b a e)
 
--- ── a natural number is below no least, a negative one above no greatest; so the sign tells which of the two a value outside is ──
+-- ── a natural number is below no least, a negative one above no greatest; so the sign tells which of the two a value
+-- outside is ──
 
 pub below-natural : (kind w m : ℕ) → isBelow kind w (pos m) ≡ false
 unfolding isBelow

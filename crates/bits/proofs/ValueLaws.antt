@@ -1,4 +1,5 @@
--- A value in range is carried by bits of its width, and read back from them: so two values in range with the same bits are equal. For any width.
+-- A value in range is carried by bits of its width, and read back from them: so two values in range with the same bits
+-- are equal. For any width.
 use Prim.Native.Nat.{ℕ, suc, _-_, _/_, _^_, _≤_, _<_}
 use mathlib.Core.Path.{_≡_, refl, ap}
 use mathlib.Core.Bool.{Bool, true, false, cond, _&&_}

@@ -1,5 +1,6 @@
--- Bits of numbers, for any width: a bit of a number, and the number that has given bits. Bit 0 is the least significant.
--- Every fact on bits goes through these two and their laws (proofs/BitLaws.antt), so no width needs one of its own.
+-- Bits of numbers, for any width: a bit of a number, and the number that has given bits. Bit 0 is the least
+-- significant. Every fact on bits goes through these two and their laws (proofs/BitLaws.antt), so no width needs one of
+-- its own.
 use Prim.Native.Nat.{ℕ, zero, suc, _+_, _*_, _/_, _%_, _^_}
 use mathlib.Core.Bool.{Bool, true, false}
 use lib.Dec.{eqb}

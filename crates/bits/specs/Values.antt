@@ -1,4 +1,5 @@
--- The values of a kind and a width w, and the patterns of w bits that carry them. Kind 1 is `signed int`, two's complement;
+-- The values of a kind and a width w, and the patterns of w bits that carry them. Kind 1 is `signed int`, two's
+-- complement;
 -- `int` (0) and `bool` (2) are natural numbers.
 use Prim.Native.Nat.{ℕ, _-_, _/_, _^_}
 use mathlib.Core.Bool.{Bool, cond, _&&_}

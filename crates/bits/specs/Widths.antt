@@ -1,5 +1,5 @@
--- 02, No. 6: "A port parameter and its registers may have width 8, 16 or 32". Here alone it stands which widths there are: every other
--- statement on masks and bits is over the width, or names `widest`.
+-- 02, No. 6: "A port parameter and its registers may have width 8, 16 or 32". Here alone it stands which widths there
+-- are: every other statement on masks and bits is over the width, or names `widest`.
 use Prim.Native.Nat.{ℕ}
 use mathlib.Core.Bool.{Bool, _||_}
 use lib.Dec.{eqb}

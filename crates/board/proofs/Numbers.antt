@@ -1,5 +1,5 @@
--- Each number that a call can give (`CanGive` of station) does occur: 20 on tables of no words, the others on the scoring
--- board.
+-- Each number that a call can give (`CanGive` of station) does occur: 20 on tables of no words, the others on the
+-- scoring board.
 -- Assumes nothing.
 use Prim.Native.Nat.{ℕ}
 use mathlib.Core.Path.{_≡_, refl, ap}

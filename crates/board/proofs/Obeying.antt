@@ -1,5 +1,5 @@
--- From an opening whose power-on values obey their masks, on tables with one mask for both parts, every cell that can be read obeys its read mask,
--- whatever is called: so no read of such a board is stopped by 52.
+-- From an opening whose power-on values obey their masks, on tables with one mask for both parts, every cell that can
+-- be read obeys its read mask, whatever is called: so no read of such a board is stopped by 52.
 -- Assumes nothing.
 use Prim.Native.Nat.{ℕ, _<_, _^_}
 use mathlib.Core.Path.{_≡_, refl, sym, ap, _∙_, subst}

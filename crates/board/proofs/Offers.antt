@@ -1,6 +1,6 @@
--- The station offers what its own state has on offer: after each call the access that stands on offer, by the answers, is the one that the
--- operation left in hand calls for. So the board, which goes by answers alone, performs what the station means.
--- Assumes nothing.
+-- The station offers what its own state has on offer: after each call the access that stands on offer, by the answers,
+-- is the one that the operation left in hand calls for. So the board, which goes by answers alone, performs what the
+-- station means. Assumes nothing.
 use Prim.Native.Nat.{ℕ, suc}
 use mathlib.Core.Path.{_≡_, refl, ap}
 use mathlib.Core.Bool.{Bool, true, false, cond}

@@ -1,5 +1,5 @@
--- What the onlooker's notes say of a variable that is settled, by the notes alone: it stays so until a write of its own begins.
--- Assumes nothing.
+-- What the onlooker's notes say of a variable that is settled, by the notes alone: it stays so until a write of its own
+-- begins. Assumes nothing.
 use Prim.Native.Nat.{ℕ}
 use mathlib.Core.Path.{_≡_, refl, sym, _∙_, subst}
 use mathlib.Core.Bool.{Bool, true, false, cond, not}

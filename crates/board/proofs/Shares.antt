@@ -1,5 +1,5 @@
--- A register's share of a variable, the bits of it that live there: calls that do not write the variable leave it in the
--- record, and in the cell leave it or make it the record's.
+-- A register's share of a variable, the bits of it that live there: calls that do not write the variable leave it in
+-- the record, and in the cell leave it or make it the record's.
 -- Assumes nothing.
 use Prim.Native.Nat.{ℕ, suc, _<_}
 use mathlib.Core.Path.{_≡_, refl, sym, ap, _∙_, subst}

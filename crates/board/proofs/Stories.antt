@@ -65,7 +65,8 @@ unfolding run scoring after cutTo numbersIn unless isLong isUnderway isRead isGa
 row-shares =
     ap₂ (λ (w u : World). fiveCells (w .cells) ∷ fiveCells (u .cells) ∷ []) (run-is rowStopped) (run-is (rowStopped ++ wholeWrite 2 (pos 3) (7 ∷ [])))
 
--- ── found again between the two registers, with the second access performed and not known to be: it is performed again ──
+-- ── found again between the two registers, with the second access performed and not known to be:
+-- it is performed again ──
 
 resumed : (fiveCells (goesOn scoring 7 (foundAgain scoring true (worldAfter start between)) .cells) ∷ []) ≡ (0x04 ∷ 0x56 ∷ 0x5C ∷ 0x7F ∷ 0x00 ∷ []) ∷ []
 unfolding run scoring after cutTo numbersIn unless isLong isUnderway isRead isGathered isAllowed isBelow isAbove inRange encode decode variableCount registerCount registerWidth registerHas parameterOf offsetOf isDot isOne kindOf variableHas joined downFrom bitsOf size placeOf without mentions registersOf bit numberOf ownBit otherBit settingsBit settingsByte writtenByte gatheredBit gather put answers lastWhere reached obeys

@@ -1,5 +1,5 @@
--- The premise of reading back is needed: a register whose two masks differ is written and then stops every read, though its variable is plain and its power-on
--- value obeys the read mask.
+-- The premise of reading back is needed: a register whose two masks differ is written and then stops every read, though
+-- its variable is plain and its power-on value obeys the read mask.
 -- Assumes nothing.
 use Prim.Native.Nat.{ℕ, zero, suc, _<_, _^_}
 use mathlib.Core.Path.{_≡_, refl, ap}

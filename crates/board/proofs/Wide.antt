@@ -1,5 +1,5 @@
--- Registers of 16 and of 32 bits: their tables are sound, the premises of demand 3 are met, and bits above a width count
--- as 0 where a number is lent, confirmed or kept.
+-- Registers of 16 and of 32 bits: their tables are sound, the premises of demand 3 are met, and bits above a width
+-- count as 0 where a number is lent, confirmed or kept.
 -- Assumes nothing.
 use Prim.Native.Nat.{ℕ, zero, suc, _<_, _^_}
 use mathlib.Core.Path.{_≡_, refl}

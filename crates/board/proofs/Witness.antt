@@ -217,8 +217,8 @@ unfolding left run scoring writesOf after cutTo numbersIn unless isLong isUnderw
 boards-are =
     ap₂ (λ (w u : World). fiveCells (w .cells) ∷ fiveCells (u .cells) ∷ []) (run-is firstCalls) (run-is secondCalls)
 
--- the score at power-on; the accident, a stop between its two registers, whatever became of the second; the seat after the row's write was abandoned;
--- the score when it was written again
+-- the score at power-on; the accident, a stop between its two registers, whatever became of the second; the seat after
+-- the row's write was abandoned; the score when it was written again
 abbrev stopped : Bool → List Call
 stopped performed = BeginWrite 0 (pos 0x123) ∷ Confirm 7 ∷ Abandon performed ∷ []
 

@@ -79,8 +79,8 @@ ShareIs t cells v r x = (j : ℕ) → j < size t writing v → homeOf t writing 
 pub record Middle (t : Tables) (power : List ℕ) (o : Opening t power) : Type 0 where
   -- so it is in every world in which the onlooker has seen a write begun and not ended
   pub under-way : (calls : List Call) (v : ℕ) (z : ℤ) → worldAfter o calls .asked ≡ ToWrite v z → UnderWay o calls v z
-  -- a write of a variable that was whole is abandoned: whatever follows but a write of it, each register's share of it is
-  -- wholly old or wholly new. (Which of the two may change: a neighbour's write puts the record's bits back.)
+  -- a write of a variable that was whole is abandoned: whatever follows but a write of it, each register's share of it
+  -- is wholly old or wholly new. (Which of the two may change: a neighbour's write puts the record's bits back.)
   pub old-or-new : (calls : List Call) (v : ℕ) (z : ℤ) → worldAfter o calls .asked ≡ ToWrite v z → isHalf (worldAfter o calls .events) v ≡ false
       → (performed : Bool) (later : List Call) → noneBegins later v ≡ true → (r : ℕ)
       → ShareIs t (after sound t (Abandon performed ∷ later) (worldAfter o calls) .cells) v r (lastGiven t (powerOn power) (worldAfter o calls .events) v)

@@ -1,5 +1,5 @@
--- The premise that the read-back gains in 02, "registers with both parts have one mask for both, and all power-on values obey their masks".
--- Assumes nothing.
+-- The premise that the read-back gains in 02, "registers with both parts have one mask for both, and all power-on
+-- values obey their masks". Assumes nothing.
 use Prim.Native.Nat.{ℕ, _<_}
 use mathlib.Core.Path.{_≡_}
 use mathlib.Core.Bool.{true}

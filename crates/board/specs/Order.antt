@@ -1,5 +1,5 @@
--- Order that does not matter: two finished writes of unlike variables leave the same board, record and marks in either order.
--- proofs/Order.antt proves it.
+-- Order that does not matter: two finished writes of unlike variables leave the same board, record and marks in either
+-- order. proofs/Order.antt proves it.
 -- Assumes nothing.
 use Prim.Native.Nat.{ℕ}
 use mathlib.Core.Path.{_≡_}

@@ -1,6 +1,6 @@
--- A loss of power that leaves the board and a list, on durable storage, of the variables whose writes were unfinished: a
--- station that opens again, and begins and abandons a write of each, never reads a mixture. proofs/Remarks.antt proves
--- it; README.md shows how a station keeps the list.
+-- A loss of power that leaves the board and a list, on durable storage, of the variables whose writes were unfinished:
+-- a station that opens again, and begins and abandons a write of each, never reads a mixture. proofs/Remarks.antt
+-- proves it; README.md shows how a station keeps the list.
 -- Assumes nothing.
 use Prim.Native.Nat.{ℕ}
 use mathlib.Core.Path.{_≡_}

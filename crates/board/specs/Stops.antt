@@ -70,8 +70,8 @@ pub record AtWork (t : Tables) (power : List ℕ) (o : Opening t power) : Type 0
   -- a settled variable has on the board the bits last given to it
   pub settled-bits : (calls : List Call) (v : ℕ) → v < variableCount t → Settled (worldAfter o calls) v
       → bitsIn t writing v (worldAfter o calls .cells) ≡ lastGiven t (powerOn power) (worldAfter o calls .events) v
-  -- whatever is begun, confirmed, finished or abandoned, at whatever step, performed or not: a settled variable keeps every bit and reads as before,
-  -- until a write of its own begins
+  -- whatever is begun, confirmed, finished or abandoned, at whatever step, performed or not: a settled variable keeps
+  -- every bit and reads as before, until a write of its own begins
   pub spared : (calls later : List Call) (v : ℕ) → v < variableCount t → Settled (worldAfter o calls) v → noneBegins later v ≡ true
       → Spared t (powerOn power) (worldAfter o calls) (after sound t later (worldAfter o calls)) v
 

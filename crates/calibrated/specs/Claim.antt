@@ -28,8 +28,8 @@ pub record OverBy (sound : Tables → Bool) (t : Tables) (s : State) (byte : ℕ
 pub record AtTheStation (sound : Tables → Bool) (t : Tables) (s : State) (c : Calibration) : Type 0 where
   -- a begin's refusals, in order of number
   pub can-give : (v : ℕ) → numbersOf (unitTests sound t s v c) ≡ 20 ∷ 21 ∷ 22 ∷ 23 ∷ 25 ∷ 26 ∷ 28 ∷ 53 ∷ []
-  -- "Demands 2 and 3 keep speaking of raw values": a begin is that of an ordinary read, and a confirmation leaves what an
-  -- ordinary one does; but where 53 refuses, which leaves everything as it was
+  -- "Demands 2 and 3 keep speaking of raw values": a begin is that of an ordinary read, and a confirmation leaves what
+  -- an ordinary one does; but where 53 refuses, which leaves everything as it was
   pub begins-raw : (v : ℕ) → (beginInUnits sound t s v c ≡ beginRead sound t s v) ⊎ (beginInUnits sound t s v c ≡ refused 53 s)
   pub confirms-raw : (byte : ℕ) → (confirmInUnits sound t s byte c .state ≡ confirm sound t s byte .state) ⊎ (confirmInUnits sound t s byte c .state ≡ s)
   -- "a product or sum not finite is refused after the read is done"

@@ -98,7 +98,8 @@ answerFor Idle c answer = Same answer
 answerFor (Reading v step g) c answer = inUnitsOf c answer
 answerFor (Writing v step x) c answer = Same answer
 
--- what a confirmation comes to: 20 to 22, 24 and 52 come before 53, as the lower numbers, and 53 leaves everything as it was
+-- what a confirmation comes to: 20 to 22, 24 and 52 come before 53, as the lower numbers, and 53 leaves everything as
+-- it was
 abbrev pub toldFor : Bool → State → Calibration → Outcome → Told
 toldFor units s c o =
     cond (isRefused (o .answer) || units)

@@ -1,4 +1,5 @@
-// The verdict on each framed text on standard input, a line each. The stored cases and what they must say come from the second implementation.
+// The verdict on each framed text on standard input, a line each. The stored cases and what they must say come from the
+// second implementation.
 use frames::Frame;
 
 fn tell(text: &[u8]) {

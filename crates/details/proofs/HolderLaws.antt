@@ -45,7 +45,8 @@ unfolding has downFrom
 has-down x from zero = run-none x from
 has-down x from (suc n) = ap (λ (b : Bool). eqb x (from + n) || b) (has-down x from n) ∙ run-more x from n (eqb x (from + n)) refl
 
--- a piece, by the words that say where it is: it has the numbers from its low bit to its high one, and none where it rises
+-- a piece, by the words that say where it is: it has the numbers from its low bit to its high one, and none where it
+-- rises
 piece-ends : (x from r h l : ℕ) → from ≡ 64 * r + l → (leb from x && ltb x (64 * r + h + 1)) ≡ (leb from x && ltb x (from + (h + 1 - l)))
 piece-ends x from r h l f = go (leb from x) refl
   where

@@ -1,4 +1,5 @@
--- Where rules 14, 15 and 16 break: the first bit or register, in the order of the tables. `Search` says where 8, 10 and 11 do.
+-- Where rules 14, 15 and 16 break: the first bit or register, in the order of the tables. `Search` says where 8, 10 and
+-- 11 do.
 use Prim.Native.Nat.{ℕ}
 use mathlib.Core.Bool.{Bool, _&&_, not}
 use mathlib.Core.List.{List}
@@ -15,7 +16,8 @@ use Rattle.details.specs.declared.search.Test.the-variants.{Shares}
 use Rattle.details.specs.Search.{firstIn}
 use Rattle.details.specs.Rows.{holderOf}
 
--- 14, 15: the first bit or register that variable v shares with an earlier one where it may not, or how many there can be
+-- 14, 15: the first bit or register that variable v shares with an earlier one where it may not, or how many there can
+-- be
 abbrev pub most : Shared → ℕ
 most Bit = 4096
 most Register = 64

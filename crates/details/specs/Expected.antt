@@ -1,5 +1,5 @@
--- What could stand at a place of refusal 4: each word with which the text before the place still begins some text of the grammar. `reading` is syntax's
--- definition of what reading a text comes to.
+-- What could stand at a place of refusal 4: each word with which the text before the place still begins some text of
+-- the grammar. `reading` is syntax's definition of what reading a text comes to.
 use Prim.Native.Nat.{ℕ, _+_}
 use mathlib.Core.Bool.{Bool, true, _&&_, _||_, not}
 use mathlib.Core.List.{List, _++_}

@@ -1,4 +1,5 @@
--- What a refusal can be told by besides its number: places as lines and columns, names, and which bits, variables and registers meet.
+-- What a refusal can be told by besides its number: places as lines and columns, names, and which bits, variables and
+-- registers meet.
 pub mod Places
 pub mod Expected
 pub mod Entries

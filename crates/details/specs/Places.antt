@@ -48,7 +48,8 @@ extentOf (Bad p) = 0
 abbrev pub nameAt : List ℕ → ℕ → List ℕ
 nameAt text place = nameOf text (placeOf (scanAt text place .token)) (extentOf (scanAt text place .token))
 
--- the last word `register` or `variable` before a place, among so many tokens from `at` on; `best` is the last one so far
+-- the last word `register` or `variable` before a place, among so many tokens from `at` on; `best` is the last one so
+-- far
 unfoldable pub openingFrom : List ℕ → ℕ → ℕ → ℕ → ℕ → ℕ
 openingFrom text place zero at best = best
 openingFrom text place (suc room) at best =

@@ -1,4 +1,5 @@
-// Where rules 14, 15 and 16 break: the first bit or register, in the order of the tables. Where the others break is one search in a table.
+// Where rules 14, 15 and 16 break: the first bit or register, in the order of the tables. Where the others break is one
+// search in a table.
 ghost use mathlib.Core.Path.{_≡_};
 ghost use Rattle.details.specs.Broken.{most, firstShared, bare, firstBare};
 use crate::entries::count_of;
@@ -19,7 +20,8 @@ fn most_of(shared: Shared) -> usize
     }
 }
 
-// Rules 14 and 15: the first bit or register that variable v shares with an earlier one where it may not, or their count.
+// Rules 14 and 15: the first bit or register that variable v shares with an earlier one where it may not, or their
+// count.
 pub fn first_shared(variables: &[u32], v: u32, part: Part, shared: Shared) -> usize
     ensures { λ r. ⌜ r ≡ firstShared (now (variables .entry)) v part shared ⌝ }
 {
@@ -35,7 +37,7 @@ pub fn first_shared(variables: &[u32], v: u32, part: Part, shared: Shared) -> us
 }
 
 // Is a bit a dot of a register's part that no variable maps?
-fn is_bare(registers: &[u32], variables: &[u32], i: u32, part: Part, b: u32) -> bool
+pub fn is_bare(registers: &[u32], variables: &[u32], i: u32, part: Part, b: u32) -> bool
     ensures { λ r. ⌜ r ≡ bare (now (registers .entry)) (now (variables .entry)) i part b ⌝ }
 {
     let dots = register_word(registers, i, part, 3);

@@ -1,4 +1,5 @@
-// Entries of the tables: where their parts start, and their names. Entries are counted in u32, so that no place can overflow.
+// Entries of the tables: where their parts start, and their names. Entries are counted in u32, so that no place can
+// overflow.
 ghost use mathlib.Core.Path.{_≡_};
 ghost use Prim.Native.Nat.{_+_, _*_, _<_, _^_};
 ghost use lib.Dec.{eqb};

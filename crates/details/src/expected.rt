@@ -1,4 +1,5 @@
-// Which words could stand at a place of refusal 4: those with which the text before it still begins some text of the grammar. Each is tried by reading.
+// Which words could stand at a place of refusal 4: those with which the text before it still begins some text of the
+// grammar. Each is tried by reading.
 ghost use mathlib.Core.Path.{_≡_};
 ghost use lib.ListN.{take};
 ghost use Rattle.syntax.specs.Text.{reading};

@@ -1,4 +1,5 @@
-// The tables as the judging of a text leaves them. Loading clears them where it refuses; here what was declared before the first broken rule stays, so that it can be told.
+// The tables as the judging of a text leaves them. Loading clears them where it refuses; here what was declared before
+// the first broken rule stays, so that it can be told.
 ghost use mathlib.Core.Path.{_≡_};
 ghost use Rattle.loader.specs.Load.{lentAs, tablesOf, beginning, judged};
 ghost use Rattle.rules.specs.State.{stateOf};

@@ -1,4 +1,5 @@
-// What can be told of a refusal besides its number, and of an accepted description besides its counts. Every answer is that of a definition in specs/.
+// What can be told of a refusal besides its number, and of an accepted description besides its counts. Every answer is
+// that of a definition in specs/.
 pub mod broken;
 pub mod entries;
 pub mod expected;

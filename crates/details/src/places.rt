@@ -68,7 +68,8 @@ pub fn name_at(text: &[u8], place: usize) -> &[u8]
     name_of(text, token::place_of(token), extent_of(token))
 }
 
-// The last word `register` or `variable` before a place: the declaration that the place lies in begins there. The text's length where there is none, as in a heading.
+// The last word `register` or `variable` before a place: the declaration that the place lies in begins there. The
+// text's length where there is none, as in a heading.
 pub fn opening(text: &[u8], place: usize) -> usize
     ensures { λ r. ⌜ r ≡ openingOf (now (text .entry)) place ⌝ }
 {

@@ -1,4 +1,5 @@
-// What a row of the map shows: runs of bits that one variable holds, and whether one row serves both parts of a register.
+// What a row of the map shows: runs of bits that one variable holds, and whether one row serves both parts of a
+// register.
 ghost use mathlib.Core.Path.{_≡_};
 ghost use Rattle.details.specs.Holders.{Weighs};
 ghost use Rattle.details.specs.Rows.{holderOf, weightOf, together, runBelow, sameBit, sameHolders, sameRegister};

@@ -38,7 +38,8 @@ pub record Put (before : List ℕ) (at : ℕ) (what after : List ℕ) (next : �
 unfoldable pub verdictOn : List ℕ → Verdict
 verdictOn text = cond (isLong text) (Refused 2 0) (verdictOf (judged text))
 
--- the line on a text stands at the start of a buffer of eighty bytes, whole. The last part follows; it is stated so that lending the line is proved by itself
+-- the line on a text stands at the start of a buffer of eighty bytes, whole. The last part follows; it is stated so
+-- that lending the line is proved by itself
 pub record Line (text before after : List ℕ) (next : ℕ) : Type 0 where
   pub put : Put before 0 (lineOf (verdictOn text)) after next
   pub whole : next ≤ length after

@@ -1,5 +1,5 @@
--- WHAT IS ACCEPTED IS DESCRIBED: the tables that a text is accepted into hold the entry of each declaration, in order, and zeros behind them.
--- Assumes nothing.
+-- WHAT IS ACCEPTED IS DESCRIBED: the tables that a text is accepted into hold the entry of each declaration, in order,
+-- and zeros behind them. Assumes nothing.
 use Prim.Native.Nat.{ℕ, _+_}
 use native.Mathlib.Omega.{arith}
 use mathlib.Core.Path.{_≡_, refl, sym, ap, _∙_, subst}

@@ -1,5 +1,5 @@
--- One declaration more, over what the calls of the code answered: it is one too many, or it stops the reading, or it is judged.
--- Assumes nothing.
+-- One declaration more, over what the calls of the code answered: it is one too many, or it stops the reading, or it is
+-- judged. Assumes nothing.
 use Prim.Native.Nat.{ℕ, _+_}
 use mathlib.Core.Path.{_≡_, sym, ap, _∙_, subst}
 use mathlib.Core.Bool.{false}

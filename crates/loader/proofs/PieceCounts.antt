@@ -1,5 +1,5 @@
--- What every variable is that was read, however its text goes on: one to eight pieces in each bit list, and one of the three kinds.
--- Assumes nothing.
+-- What every variable is that was read, however its text goes on: one to eight pieces in each bit list, and one of the
+-- three kinds. Assumes nothing.
 use Prim.Native.Nat.{ℕ, _≤_, _<_}
 use native.Mathlib.Omega.{arith}
 use mathlib.Core.Path.{_≡_, refl}

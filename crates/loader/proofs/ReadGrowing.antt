@@ -1,5 +1,5 @@
--- Over a whole text: as long as no rule is broken, the tables count what was read, and each entry is as refusal 20 wants it.
--- Assumes nothing.
+-- Over a whole text: as long as no rule is broken, the tables count what was read, and each entry is as refusal 20
+-- wants it. Assumes nothing.
 use Prim.Native.Nat.{ℕ, _+_, _≤_, _<_}
 use native.Mathlib.Omega.{arith}
 use mathlib.Core.Path.{_≡_, refl, sym, ap, _∙_, subst}

@@ -1,4 +1,5 @@
--- What loading a text into lent tables answers, in the words of document 01: the published grammar, the sizes, and the rules declaration by declaration.
+-- What loading a text into lent tables answers, in the words of document 01: the published grammar, the sizes, and the
+-- rules declaration by declaration.
 -- `proofs/Exactly.antt` shows that `loadOf` answers this and nothing else.
 use Prim.Native.Nat.{ℕ, _+_, _≤_, _<_}
 use mathlib.Core.Path.{_≡_}
@@ -138,8 +139,8 @@ RightVerdict text t v =
     ((isShort t ≡ true) × (v ≡ Refused 1 0))
     ⊎ (((isShort t ≡ false) × (isLong text ≡ true) × (v ≡ Refused 2 0)) ⊎ ((isShort t ≡ false) × (isLong text ≡ false) × RightRead text v))
 
--- WHAT IS LEFT. 1 and 2 touch nothing; 3 to 16 leave zeros over the stated sizes; accepting leaves what stands after all declarations (specs/Describes.antt
--- says what that is). What lies past the stated sizes stays.
+-- WHAT IS LEFT. 1 and 2 touch nothing; 3 to 16 leave zeros over the stated sizes; accepting leaves what stands after
+-- all declarations (specs/Describes.antt says what that is). What lies past the stated sizes stays.
 unfoldable pub Leaves : List ℕ → Tables → Verdict → Tables → Type 0
 Leaves text t (Accepted p r v) left = left ≡ laidOver (standing text (declared text)) t
 Leaves text t (Refused number place) left = ((number ≤ 2) × (left ≡ t)) ⊎ ((3 ≤ number) × (left ≡ laidOver beginning t))

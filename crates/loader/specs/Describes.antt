@@ -36,8 +36,8 @@ variableEntry text s it =
 unfoldable pub Blank : ℕ → ℕ → List ℕ → ℕ → Type 0
 Blank stride size table n = (k : ℕ) → stride * n + 1 ≤ k → k < size → getD table k 0 ≡ 0
 
--- The counts are those declared. The i-th parameter, register and variable that the text declares is entry i, made from its declaration and from what stands
--- before it, where its names are found. All else is zero.
+-- The counts are those declared. The i-th parameter, register and variable that the text declares is entry i, made from
+-- its declaration and from what stands before it, where its names are found. All else is zero.
 pub record Describes (text : List ℕ) (t : Tables) : Type 0 where
   pub parameters-counted : countOf (t .parameters) ≡ tally oneParameter (declared text)
   pub registers-counted : countOf (t .registers) ≡ tally oneRegister (declared text)

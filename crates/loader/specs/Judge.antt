@@ -1,4 +1,5 @@
--- Judging what a text declares, declaration by declaration: the device, each parameter, each register and variable, in the text's order.
+-- Judging what a text declares, declaration by declaration: the device, each parameter, each register and variable, in
+-- the text's order.
 use Prim.Native.Nat.{ℕ, _+_}
 use mathlib.Core.List.{List}
 use Rattle.syntax.specs.declared.reader.Step.{Step}
@@ -19,7 +20,8 @@ judge text s (aParameter d) = unlessStopped s (judgeParameter text s d)
 judge text s (aRegister d) = unlessStopped s (judgeRegister text s d)
 judge text s (aVariable d) = unlessStopped s (judgeVariable text s d)
 
--- how far loading has come, as the code holds it: the counts, the device, the fault and the step by value, the tables lent
+-- how far loading has come, as the code holds it: the counts, the device, the fault and the step by value, the tables
+-- lent
 unfoldable pub progressOf : Loading → List ℕ → List ℕ → List ℕ → Progress State
 progressOf l ps rs vs =
     record { parameters = l .parameters; registers = l .registers; variables = l .variables; made = stateOf (l .judging) ps rs vs; step = l .step }

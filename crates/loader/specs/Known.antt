@@ -1,4 +1,5 @@
--- A map of marks for names. Most names are new, and for those it says so at once; a name whose mark stands is searched for in the tables.
+-- A map of marks for names. Most names are new, and for those it says so at once; a name whose mark stands is searched
+-- for in the tables.
 use Prim.Native.Nat.{ℕ, _+_, _*_, _%_}
 use mathlib.Core.Path.{_≡_}
 use mathlib.Core.Bool.{false}

@@ -1,4 +1,5 @@
--- "Declaration by declaration, lowest number first": the rules of a parameter, a register and a variable in their order, each with its test.
+-- "Declaration by declaration, lowest number first": the rules of a parameter, a register and a variable in their
+-- order, each with its test.
 -- `proofs/Lowest.antt` shows that judging names the first that is broken.
 use Prim.Native.Nat.{ℕ}
 use mathlib.Core.Bool.{Bool, _&&_, _||_, not, cond}

@@ -1,4 +1,5 @@
--- What the code keeps beside the tables while it judges declarations: bounds of the counts, the maps of rules 14 and 15, and the map of names.
+-- What the code keeps beside the tables while it judges declarations: bounds of the counts, the maps of rules 14 and
+-- 15, and the map of names.
 use Prim.Native.Nat.{ℕ, _≤_, _<_, _^_}
 use mathlib.Core.Path.{_≡_}
 use mathlib.Core.Bool.{true}

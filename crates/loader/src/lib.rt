@@ -1,4 +1,5 @@
-// Loading a description: a text is read and judged in one pass, and what every answer leaves in the lent tables is said for each.
+// Loading a description: a text is read and judged in one pass, and what every answer leaves in the lent tables is said
+// for each.
 pub mod declarations;
 pub mod heading;
 pub mod known;

@@ -1,5 +1,5 @@
--- What computes when a case does: all definitions between a text and its verdict, and between a call and its answer, each group under one name and all of them
--- under `computing`. To unfold a name is to unfold what its own line names.
+-- What computes when a case does: all definitions between a text and its verdict, and between a call and its answer,
+-- each group under one name and all of them under `computing`. To unfold a name is to unfold what its own line names.
 -- Assumes nothing.
 use Rattle.bits.specs.Bits.{bit, numberOf}
 use Rattle.bits.specs.Values.{isBelow, isAbove, encode, decode}

@@ -1,5 +1,5 @@
--- 64 registers, and one more. The checker bounds the steps of one declaration, so the text is loaded in strides of seven registers, each computed by itself.
--- Assumes nothing.
+-- 64 registers, and one more. The checker bounds the steps of one declaration, so the text is loaded in strides of
+-- seven registers, each computed by itself. Assumes nothing.
 use Prim.Native.Nat.{ℕ, zero, suc, _+_, _-_, _*_}
 use mathlib.Core.Path.{_≡_, refl, sym, ap, _∙_}
 use mathlib.Core.Bool.{false}
@@ -42,7 +42,8 @@ text = many 64
 abbrev start : ℕ → ℕ
 start i = 32 + 46 * i
 
--- its entry: name place, name length, width; the read part: present, parameter, offset, no dot and no fixed bit; no write part
+-- its entry: name place, name length, width; the read part: present, parameter, offset, no dot and no fixed bit; no
+-- write part
 entry : ℕ → List ℕ
 entry i = (start i + 9) ∷ 3 ∷ 8 ∷ 1 ∷ 0 ∷ i ∷ replicate 9 0
 

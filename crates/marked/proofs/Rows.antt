@@ -24,7 +24,8 @@ answers-passed t ok (call ∷ calls) w =
     ap (λ (l : List Answer). step sound t call w .answer ∷ l) (answers-passed t ok calls (step sound t call w))
     ∙ ap (λ (u : World). u .answer ∷ answersTo passed t calls u) next
 
--- the answers to a case's calls over tables that loading left: what it accepts is sound, so refusal 20's test need not be computed there
+-- the answers to a case's calls over tables that loading left: what it accepts is sound, so refusal 20's test need not
+-- be computed there
 abbrev answersIf : Bool → Tables → Case → List Answer
 answersIf true t c = answersTo passed t (c .calls) (opened passed t (c .power) lent)
 answersIf false t c = answersTo sound t (c .calls) (opened sound t (c .power) lent)

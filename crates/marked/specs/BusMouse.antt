@@ -1,6 +1,6 @@
--- Besides the marked cases: the bus mouse of document 001, its lost dots restored, from its text to its bytes. The text is that of boards/busmouse.devil
--- without its comments: the counter is only read, the signature is both; index, interruption and control are only written, and the first two share an offset.
--- Assumes nothing.
+-- Besides the marked cases: the bus mouse of document 001, its lost dots restored, from its text to its bytes. The text
+-- is that of boards/busmouse.devil without its comments: the counter is only read, the signature is both; index,
+-- interruption and control are only written, and the first two share an offset. Assumes nothing.
 use Prim.Native.Nat.{ℕ}
 use mathlib.Core.Path.{_≡_}
 use mathlib.Core.List.{List, [], _∷_, _++_}
@@ -20,8 +20,8 @@ mouse =
     bytes "register interruption = write base @ 2, mask '000.0000' : bit[8]; variable disabled = interruption[4] : bool; " ++
     bytes "register cr = write base @ 3, mask '1001000.' : bit[8]; variable config = cr[0] : bool; }"
 
--- the buttons are read; the signature is written and read back; the index is set and the interruption disabled, at one offset, and the control register
--- configured, each with its mask's fixed bits; what is only read is not written
+-- the buttons are read; the signature is written and read back; the index is set and the interruption disabled, at one
+-- offset, and the control register configured, each with its mask's fixed bits; what is only read is not written
 unfoldable pub busMouse : Case
 busMouse =
     runs mouse (Accepted 1 5 7) (0x6B ∷ 0 ∷ 0 ∷ 0 ∷ 0 ∷ [])

@@ -1,7 +1,7 @@
--- The marked cases of document 01 ("The verdict program and its cases"), in its order, with those that 02 adds: one table under one claim. Each case begins with a text. Loading it
--- gives a verdict; and where 01 goes on to bytes and values, the tables that loading left are the ones that the station's calls get. proofs/Cases.antt proves
--- the claim, which is about the very definitions that the contracts of `load` and of the station's calls cite.
--- Assumes nothing.
+-- The marked cases of document 01 ("The verdict program and its cases"), in its order, with those that 02 adds: one
+-- table under one claim. Each case begins with a text. Loading it gives a verdict; and where 01 goes on to bytes and
+-- values, the tables that loading left are the ones that the station's calls get. proofs/Cases.antt proves the claim,
+-- which is about the very definitions that the contracts of `load` and of the station's calls cite. Assumes nothing.
 use Prim.Native.Nat.{ℕ, zero, suc, _+_, _/_, _%_}
 use Prim.Native.Char.{code}
 use Prim.Native.String.{String}
@@ -24,7 +24,8 @@ use Rattle.board.specs.Board.{World, Call, BeginRead, BeginWrite, step, opened,
 
 -- ── what a case is ──
 
--- a text and its verdict; the power-on bytes that its tables are opened with, the calls then made, and the answer to each
+-- a text and its verdict; the power-on bytes that its tables are opened with, the calls then made, and the answer to
+-- each
 pub record Case : Type 0 where
   pub text : List ℕ
   pub verdict : Verdict
@@ -104,7 +105,8 @@ any = 7
 abbrev pub -2 : ℤ
 -2 = negsuc 1
 
--- behind 01's case of mask `1..00000` stand those of 02, No. 2: that mask and `000.0000` at one write place, a pair without such a bit, and read parts
+-- behind 01's case of mask `1..00000` stand those of 02, No. 2: that mask and `000.0000` at one write place, a pair
+-- without such a bit, and read parts
 unfoldable pub marked : List Case
 marked =
     loads (with-variables "variable v=r:int(8);") (Accepted 1 1 1)
@@ -149,7 +151,8 @@ unfoldable pub answersTo : (Tables → Bool) → Tables → List Call → World 
 answersTo test t [] w = []
 answersTo test t (call ∷ calls) w = step test t call w .answer ∷ answersTo test t calls (step test t call w)
 
--- what comes of a case: the verdict on its text, and, over the tables that this leaves, the answers to its calls from the opening on
+-- what comes of a case: the verdict on its text, and, over the tables that this leaves, the answers to its calls from
+-- the opening on
 abbrev pub outcomeOf : Case → Verdict × List Answer
 outcomeOf c =
     let t : Tables = loadOf (c .text) blank .tables in

@@ -1,5 +1,5 @@
--- A station over one text, from call to call: what each line is answered with, and what it leaves. `kept` is the record. How an answer is
--- written is not stated here: the stored scripts hold it.
+-- A station over one text, from call to call: what each line is answered with, and what it leaves. `kept` is the
+-- record. How an answer is written is not stated here: the stored scripts hold it.
 use mathlib.Core.Bool.{Bool, true, false, cond, _||_}
 use mathlib.Core.List.{List, _++_}
 use mathlib.Core.Path.{_≡_}

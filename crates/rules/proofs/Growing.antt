@@ -1,5 +1,5 @@
--- While no rule is broken, the tables grow as `Growth` wants it: each entry is as refusal 20 wants it, and what is not used is zero.
--- Assumes nothing.
+-- While no rule is broken, the tables grow as `Growth` wants it: each entry is as refusal 20 wants it, and what is not
+-- used is zero. Assumes nothing.
 use Prim.Native.Nat.{ℕ, _+_, _*_, _≤_, _<_}
 use native.Mathlib.Omega.{arith}
 use mathlib.Core.Path.{_≡_, ap, _∙_}

@@ -1,5 +1,5 @@
--- The judging of a declaration: a first fault stays, what is broken before there is an entry stops it, and else the entry says what comes of it.
--- Assumes nothing.
+-- The judging of a declaration: a first fault stays, what is broken before there is an entry stops it, and else the
+-- entry says what comes of it. Assumes nothing.
 use Prim.Native.Nat.{ℕ}
 use mathlib.Core.Path.{_≡_, refl, sym, ap, _∙_}
 use mathlib.Core.Bool.{Bool, true, false}

@@ -1,5 +1,5 @@
--- What lies past the stated sizes of the tables says nothing: tables that are good so far are so with anything behind them.
--- Assumes nothing.
+-- What lies past the stated sizes of the tables says nothing: tables that are good so far are so with anything behind
+-- them. Assumes nothing.
 use Prim.Native.Nat.{ℕ, suc, _+_, _-_, _*_, _≤_, _<_}
 use native.Mathlib.Omega.{arith}
 use mathlib.Core.Path.{_≡_, refl, sym, ap, ap₂, _∙_}

@@ -1,5 +1,5 @@
--- The entry of a register has the shape that refusal 20 wants: each part absent and zero, or with a parameter that is there and masks that fit.
--- Assumes nothing.
+-- The entry of a register has the shape that refusal 20 wants: each part absent and zero, or with a parameter that is
+-- there and masks that fit. Assumes nothing.
 use Prim.Native.Nat.{ℕ, zero, suc, _+_, _-_, _*_, _/_, _≤_, _<_, _^_}
 use native.Mathlib.Omega.{arith}
 use native.Mathlib.Nat.{min-le-left}

@@ -1,4 +1,5 @@
--- The rules of one declaration: document 01's sections "Ports, masks and bits" and "Consistency rules and the desk's refusals".
+-- The rules of one declaration: document 01's sections "Ports, masks and bits" and "Consistency rules and the desk's
+-- refusals".
 pub mod Fault
 pub mod State
 pub mod Names

@@ -1,5 +1,6 @@
 -- The bit lists of a variable: the registers that they name, which of them gives which part, and the words of a part.
--- A list was read into five words for each piece: the place and the length of the register's name, whether it is taken whole, the high bit and the low one.
+-- A list was read into five words for each piece: the place and the length of the register's name, whether it is taken
+-- whole, the high bit and the low one.
 -- `rs` are the registers; a part p is 0 for read and 1 for write.
 use Prim.Native.Nat.{ℕ, zero, suc, _+_, _-_, _*_}
 use mathlib.Core.Bool.{Bool, _&&_, cond}
@@ -16,8 +17,8 @@ use Rattle.rules.specs.Modifiers.{arePaired}
 use Rattle.rules.specs.Names.{nameOf, registerNamed, isNothing, indexOf}
 use Rattle.rules.specs.Words.{wordOf, written}
 
--- 02, No. 6: "masks and bit numbers follow": a whole register is all its bits. The high bit of piece k, of register r: as it
--- is read, or the highest that the register has, where it is taken whole
+-- 02, No. 6: "masks and bit numbers follow": a whole register is all its bits. The high bit of piece k, of register r:
+-- as it is read, or the highest that the register has, where it is taken whole
 unfoldable pub highIn : List ℕ → List ℕ → ℕ → ℕ → ℕ
 highIn rs list k r = cond (eqb (getD list (5 * k + 2) 0) 1) (registerWidth rs r - 1) (getD list (5 * k + 3) 0)
 
@@ -56,7 +57,8 @@ paired d = arePaired (eqb (d .rest .count) 0) (d .mark) (d .rest .mark)
 unfoldable pub allHave : List ℕ → ℕ → List ℕ → ℕ → Bool
 allHave rs p pieces n = every n (λ k. present rs (registerPart (getD pieces (3 * k) 0) p))
 
--- 1 for the first list, 2 for the second, 0 for none: the list with the part's modifier, or a bare one whose registers all have the part
+-- 1 for the first list, 2 for the second, 0 for none: the list with the part's modifier, or a bare one whose registers
+-- all have the part
 unfoldable pub listFor : List ℕ → Variable → List ℕ → ℕ → ℕ
 listFor rs d first p =
     cond (paired d)

@@ -1,5 +1,5 @@
--- Masks. 02, No. 6: "masks and bit numbers follow": a mask has as many elements as the register has bits, the rightmost for
--- bit 0. The tables hold one as three numbers: which bits are dots, which are fixed, and which are fixed at 1.
+-- Masks. 02, No. 6: "masks and bit numbers follow": a mask has as many elements as the register has bits, the rightmost
+-- for bit 0. The tables hold one as three numbers: which bits are dots, which are fixed, and which are fixed at 1.
 use Prim.Native.Nat.{ℕ, _+_, _-_, _^_, min}
 use mathlib.Core.Bool.{Bool, _||_, cond}
 use mathlib.Core.List.{List}
@@ -18,8 +18,8 @@ isElement Dot byte = eqb byte (code ".")
 isElement Fixed byte = eqb byte (code "0") || eqb byte (code "1")
 isElement One byte = eqb byte (code "1")
 
--- how many bits the numbers of a mask have: one for each element, as far as a register may be wide (a stated width may be any number: 12 comes after
--- 9 and 10)
+-- how many bits the numbers of a mask have: one for each element, as far as a register may be wide (a stated width may
+-- be any number: 12 comes after 9 and 10)
 unfoldable pub bitsHeld : ℕ → ℕ
 bitsHeld w = min w widest
 

@@ -1,4 +1,5 @@
--- The modifiers `read` (1) and `write` (2): the same pairings for ports and for bit lists, and the same count of masks and of triggers for a part.
+-- The modifiers `read` (1) and `write` (2): the same pairings for ports and for bit lists, and the same count of masks
+-- and of triggers for a part.
 use Prim.Native.Nat.{ℕ, _+_}
 use mathlib.Core.Bool.{Bool, _&&_, _||_, cond}
 use lib.Dec.{eqb, leb}

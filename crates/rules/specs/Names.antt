@@ -1,4 +1,5 @@
--- Names. An entry of a table records where its name stands in the text: the place in its first word, the length in its second.
+-- Names. An entry of a table records where its name stands in the text: the place in its first word, the length in its
+-- second.
 use Prim.Native.Nat.{ℕ, _+_, _-_, _*_, _/_, _<_, _^_, min}
 use mathlib.Core.Path.{_≡_}
 use mathlib.Core.Bool.{Bool, true, false, _&&_, _||_, not, cond}

@@ -6,7 +6,8 @@ use Rattle.rules.specs.declared.fault.Fault.{Fault}
 use Rattle.rules.specs.Fault.{isFault}
 use Rattle.rules.specs.declared.declared.Judging.{Judging}
 
--- the device's name (its place and length), the tables so far, and the first rule broken, if one is. The first rule broken decides.
+-- the device's name (its place and length), the tables so far, and the first rule broken, if one is. The first rule
+-- broken decides.
 pub record State : Type 0 where
   pub place : ℕ
   pub extent : ℕ

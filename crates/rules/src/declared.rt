@@ -24,7 +24,8 @@ pub fn with_fault(judging: Judging, fault: Fault) -> Judging
     }
 }
 
-// Rule 6, of a name that is declared at a place. There is nothing to search for where the caller knows that it is fresh.
+// Rule 6, of a name that is declared at a place. There is nothing to search for where the caller knows that it is
+// fresh.
 pub fn declared_before(
     text: &[u8],
     judging: Judging,

@@ -1,4 +1,5 @@
-// What the modifiers `read` (1) and `write` (2) may say: the same of ports and of bit lists, and the same of masks and of triggers.
+// What the modifiers `read` (1) and `write` (2) may say: the same of ports and of bit lists, and the same of masks and
+// of triggers.
 ghost use mathlib.Core.Path.{_≡_};
 ghost use Rattle.rules.specs.Modifiers.{arePaired, atMostOne};
 

@@ -71,7 +71,8 @@ pub fn held(table: &[u32], stride: usize) -> usize
     least(counted, (table.len() - 1) / stride)
 }
 
-// Does an entry record a name that ends as this one? A name whose length or last byte differs is another: most are told apart by these.
+// Does an entry record a name that ends as this one? A name whose length or last byte differs is another: most are told
+// apart by these.
 fn ends_alike(text: &[u8], table: &[u32], at: usize, name: &[u8]) -> bool
     requires { ⌜ at < 2 ^ 40 ⌝ }
     ensures { λ r. ⌜ (r ≡ false → isNamed (now (text .entry)) (now (table .entry)) at (now (name .entry)) ≡ false) ⌝ }

@@ -129,7 +129,8 @@ pub fn late_number(
     lowest(entry, pick(bad_behaviours(behaviours, read, write), 13, 0))
 }
 
-// What breaks before there is an entry; the list that gives each part, and the pieces of both lists as the tables hold them.
+// What breaks before there is an entry; the list that gives each part, and the pieces of both lists as the tables hold
+// them.
 pub struct Early {
     pub fault: Fault,
     pub read: usize,
@@ -256,7 +257,8 @@ pub fn early_of(
     }
 }
 
-// Judges a variable against the tables so far. Its fault is named where a rule is broken; else the tables and the maps have it.
+// Judges a variable against the tables so far. Its fault is named where a rule is broken; else the tables and the maps
+// have it.
 pub fn judge_variable(
     text: &[u8],
     judging: Judging,

@@ -1,5 +1,5 @@
--- Each call is refused with the lowest number whose test holds, and with none where no test holds; a refusal leaves everything as it was.
--- Assumes nothing.
+-- Each call is refused with the lowest number whose test holds, and with none where no test holds; a refusal leaves
+-- everything as it was. Assumes nothing.
 use Prim.Native.Nat.{ℕ, suc}
 use mathlib.Core.Path.{_≡_, _∙_, refl, sym, ap, subst}
 use mathlib.Core.Bool.{Bool, true, false, true≢false, cond, not}

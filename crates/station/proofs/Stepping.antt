@@ -1,5 +1,5 @@
--- Demand 2's step order: a begin and its confirmations are answered by the offers of the plan, in its order, and then by done.
--- Assumes nothing.
+-- Demand 2's step order: a begin and its confirmations are answered by the offers of the plan, in its order, and then
+-- by done. Assumes nothing.
 use Prim.Native.Nat.{ℕ, zero, suc, _+_, _≤_, _<_, _^_}
 use mathlib.Core.Path.{_≡_, refl, sym, ap, ap₂, _∙_, subst}
 use mathlib.Core.Logic.{_⊎_, inl, inr}

@@ -1,5 +1,5 @@
--- Bits above a register's width count as 0 (`HighBitsAreZero`). An opening cuts what it is lent. A number confirmed and a
--- number kept are looked at bit by bit, and only below the width: fixed bits, dots and a variable's bits lie there.
+-- Bits above a register's width count as 0 (`HighBitsAreZero`). An opening cuts what it is lent. A number confirmed and
+-- a number kept are looked at bit by bit, and only below the width: fixed bits, dots and a variable's bits lie there.
 -- Assumes nothing.
 use Prim.Native.Nat.{ℕ, suc, _<_}
 use native.Mathlib.Omega.{arith}

@@ -1,6 +1,6 @@
--- An answer in the words of document 01: the number that a refusal has there, and the values that the other answers give.
--- proofs/Refusals.antt proves `CanGive`, and `Refuses` of the five calls, by the lists of tests in Calls.antt, and of the code that keeps its promise.
--- Assumes nothing.
+-- An answer in the words of document 01: the number that a refusal has there, and the values that the other answers
+-- give. proofs/Refusals.antt proves `CanGive`, and `Refuses` of the five calls, by the lists of tests in Calls.antt,
+-- and of the code that keeps its promise. Assumes nothing.
 use Prim.Native.Nat.{ℕ}
 use mathlib.Core.Path.{_≡_}
 use mathlib.Core.Bool.{Bool, true, false, cond}

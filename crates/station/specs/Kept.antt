@@ -32,7 +32,8 @@ pub record SameLists (s left : State) : Type 0 where
 pub record Keeps (sound : Tables → Bool) (t : Tables) (s : State) : Type 0 where
   pub read-begun : (v : ℕ) → SameLists s (beginRead sound t s v .state)
   pub write-begun : (v : ℕ) (z : ℤ) → SameLists s (beginWrite sound t s v z .state)
-  -- "The record then keeps for each register the last byte confirmed as written": at its confirmation, the byte that was offered
+  -- "The record then keeps for each register the last byte confirmed as written": at its confirmation, the byte that
+  -- was offered
   pub write-confirmed : (byte v step : ℕ) (w : InHand s v step) → NotRefused (confirm sound t s byte)
       → confirm sound t s byte .state .kept ≡ set (s .kept) (registerTaken t writing v step) (writeAccess t s v step (w .bits) .byte)
   -- "Only a finished write of that variable, or a new opening, clears the mark"

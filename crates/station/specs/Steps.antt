@@ -30,8 +30,8 @@ abbrev pub Once : List ℕ → Type 0
 Once [] = Unit {0}
 Once (r ∷ rest) = (Among r rest → ⊥) × Once rest
 
--- `registersOf`, the order of first mention, has the register of each bit of the part, each once, and no other: so it is as long as "the part has
--- distinct registers"
+-- `registersOf`, the order of first mention, has the register of each bit of the part, each once, and no other: so it
+-- is as long as "the part has distinct registers"
 pub record EachOnce (t : Tables) (part : Part) (v : ℕ) : Type 0 where
   pub once : Once (registersOf t part v)
   pub every : (j : ℕ) → j < size t part v → Among (homeOf t part v j) (registersOf t part v)
@@ -50,7 +50,8 @@ readPlan t v = plan t reading v (λ r. 0)
 abbrev pub writePlan : Tables → State → ℕ → ℤ → List Access
 writePlan t s v z = plan t writing v (writtenByte t (keptOf s) v (encode (size t writing v) z))
 
--- ── "The byte written takes the variable's bits from the value, other dot bits from the record, `0` and `1` from the mask, `*` as 0." ──
+-- ── "The byte written takes the variable's bits from the value, other dot bits from the record, `0` and `1` from the
+-- mask, `*` as 0." ──
 
 -- `writtenByte` is the byte of register r that does so for the bits x of variable v, and no other byte does
 pub record ByteRight (t : Tables) (kept : ℕ → ℕ) (v x r byte : ℕ) : Type 0 where
@@ -94,7 +95,8 @@ unfoldable pub answersOf : Tables → Outcome → List ℕ → List Answer
 answersOf t o [] = o .answer ∷ []
 answersOf t o (byte ∷ bytes) = o .answer ∷ answersOf t (confirm sound t (o .state) byte) bytes
 
--- each access of the plan is offered, in its order, and then done is said: "Done gives the value and the number of accesses"
+-- each access of the plan is offered, in its order, and then done is said: "Done gives the value and the number of
+-- accesses"
 abbrev pub offersThenDone : List Access → ℤ → List Answer
 offersThenDone accesses value = map Offered accesses ++ (Done value (length accesses) ∷ [])
 
@@ -103,7 +105,8 @@ offersThenDone accesses value = map Offered accesses ++ (Done value (length acce
 pub record GoesByPlan (t : Tables) (begin : Outcome) (accesses : List Access) (value : List ℕ → ℤ) (good : List ℕ → Type 0) : Type 0 where
   pub answers : refusalOf (begin .answer) ≡ none → (bytes : List ℕ) → good bytes → length bytes ≤ length accesses
       → answersOf t begin bytes ≡ take (suc (length bytes)) (offersThenDone accesses (value bytes))
-  -- "An operation ends after exactly as many confirmations as the part has distinct registers": with all of them, that is every answer
+  -- "An operation ends after exactly as many confirmations as the part has distinct registers": with all of them, that
+  -- is every answer
   pub whole : refusalOf (begin .answer) ≡ none → (bytes : List ℕ) → good bytes → length bytes ≡ length accesses
       → answersOf t begin bytes ≡ offersThenDone accesses (value bytes)
   -- "at most 8"

@@ -1,6 +1,6 @@
--- 02, No. 6: "In any number lent, confirmed or kept for a register, bits above its width count as 0." `cutTo` (Calls.antt)
--- is the number without them. proofs/Widths.antt proves `HighBitsAreZero` for any tables, numbers and states: where the
--- tables are not sound, every call is refused, whatever the numbers are.
+-- 02, No. 6: "In any number lent, confirmed or kept for a register, bits above its width count as 0." `cutTo`
+-- (Calls.antt) is the number without them. proofs/Widths.antt proves `HighBitsAreZero` for any tables, numbers and
+-- states: where the tables are not sound, every call is refused, whatever the numbers are.
 -- Assumes nothing.
 use Prim.Native.Nat.{ℕ, _<_, _^_}
 use mathlib.Core.Path.{_≡_}

@@ -9,7 +9,8 @@ use crate::outcomes::refuse;
 use crate::outcomes::stop;
 use crate::standing::fault;
 
-// Ends the operation in hand. The access on offer may have been performed or not, so a write leaves its variable half-written.
+// Ends the operation in hand. The access on offer may have been performed or not, so a write leaves its variable
+// half-written.
 pub fn abandon(
     parameters: &[u32],
     registers: &[u32],

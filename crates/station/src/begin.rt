@@ -67,7 +67,8 @@ fn begin_fault(
     0
 }
 
-// The number of a value outside its type: below the least, or above the greatest. As 0 lies in every type, the sign tells which.
+// The number of a value outside its type: below the least, or above the greatest. As 0 lies in every type, the sign
+// tells which.
 fn outside_number(value: i64) -> usize
     ensures { λ r. ⌜ r ≡ outsideNumber value ⌝ }
 {
@@ -110,7 +111,8 @@ pub fn begin_read(
     offer_read(registers, variables, v, 0, 0)
 }
 
-// Begins to write a value to a variable: the answer offers its first access, or refuses. Nothing is recorded before it is confirmed.
+// Begins to write a value to a variable: the answer offers its first access, or refuses. Nothing is recorded before it
+// is confirmed.
 pub fn begin_write(
     parameters: &[u32],
     registers: &[u32],

@@ -45,7 +45,8 @@ fn next_read(
     }
 }
 
-// `step` accesses of the write are confirmed: the next is offered, or none is left, the write is done and its mark cleared.
+// `step` accesses of the write are confirmed: the next is offered, or none is left, the write is done and its mark
+// cleared.
 fn next_write(
     registers: &[u32],
     variables: &[u32],

@@ -26,7 +26,8 @@ fn cut(number: usize, width: usize) -> usize
     }
 }
 
-// The first `n` numbers of `target` become those of `power`, each cut to its register's width, and 0 where there is none.
+// The first `n` numbers of `target` become those of `power`, each cut to its register's width, and 0 where there is
+// none.
 fn copy_numbers(registers: &[u32], power: &[u32], target: &mut [u32], n: usize)
     requires { ⌜ n ≤ length (now target) ⌝ }
     requires { ⌜ n < 2 ^ 32 ⌝ }
@@ -53,7 +54,8 @@ fn clear_marks(marks: &mut [u8], n: usize)
     }
 }
 
-// The number of the first refusal of an opening, and 0 where there is none. What is in hand does not count, since an opening ends it.
+// The number of the first refusal of an opening, and 0 where there is none. What is in hand does not count, since an
+// opening ends it.
 fn open_fault(
     parameters: &[u32],
     registers: &[u32],

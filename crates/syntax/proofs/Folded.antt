@@ -1,5 +1,5 @@
--- Whatever is made of a text's declarations as they are read is what comes of the list of them afterwards: the reading does not depend on it.
--- Assumes nothing.
+-- Whatever is made of a text's declarations as they are read is what comes of the list of them afterwards: the reading
+-- does not depend on it. Assumes nothing.
 use Prim.Native.Nat.{ℕ, zero, suc}
 use mathlib.Core.Path.{_≡_, refl, sym, ap, _∙_}
 use mathlib.Core.Bool.{Bool, true, false, cond}

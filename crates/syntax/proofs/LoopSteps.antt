@@ -57,7 +57,8 @@ loop-keeps text step tells turn I keeps (suc room) p i = by (tells (seenAt text 
     by true e rest = subst I (sym (loop-on text step tells turn room p e)) (rest (keeps p e i))
     by false e rest = subst I (sym (loop-end text step tells turn (suc room) p e)) i
 
--- Along a text: what holds at a place once it holds at every place behind, as far as the text goes, holds at every place.
+-- Along a text: what holds at a place once it holds at every place behind, as far as the text goes, holds at every
+-- place.
 along-from : {A : Type 0} (size : ℕ) (Holds : A → ℕ → Type 0) → ((x : A) (at : ℕ) → ((y : A) (end : ℕ) → at < end → at < size → Holds y end) → Holds x at)
     → (bound : ℕ) (x : A) (at : ℕ) → size < at + bound → Holds x at
 along-from size Holds turn zero x at h = turn x at (λ y end ahead inside. absurd (omega arith))

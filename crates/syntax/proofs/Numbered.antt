@@ -1,5 +1,5 @@
--- The published grammar by the kinds' numbers: the words and signs that it writes have just these, as the scanner computes them.
--- Assumes nothing.
+-- The published grammar by the kinds' numbers: the words and signs that it writes have just these, as the scanner
+-- computes them. Assumes nothing.
 use mathlib.Core.Path.{_≡_, refl}
 use Rattle.token.specs.Bytes.{same, begins, oneOf, within, firstTrue, runFrom}
 use Rattle.token.specs.Gap.{isBlank, gapFrom}

@@ -1,5 +1,5 @@
--- What it is for a step of the reading to agree with the count of sizes; and that it goes on to agree from token to token. The laws of the productions are put
--- together from these as the readers are.
+-- What it is for a step of the reading to agree with the count of sizes; and that it goes on to agree from token to
+-- token. The laws of the productions are put together from these as the readers are.
 -- Assumes nothing.
 use Prim.Native.Nat.{ℕ, zero, suc, _+_, _≤_, _<_}
 use native.Mathlib.Omega.{arith}
@@ -94,8 +94,8 @@ module _ (text : List ℕ) where
   -- ---- agreement
 
   module _ (w : Option ℕ) where
-    -- `w` is where a size is first passed. A step agrees with a count: at a place, when from there on the count comes to `w`; refused by 5, when `w` is that
-    -- place; and refused by another number, when no size is passed before.
+    -- `w` is where a size is first passed. A step agrees with a count: at a place, when from there on the count comes
+    -- to `w`; refused by 5, when `w` is that place; and refused by another number, when no size is passed before.
     unfoldable pub Agrees : Tally → Step → Type 0
     Agrees c (At at) = passedIn c (tokensAt text at) ≡ w
     Agrees c (Refused number place) = ((number ≡ 5) × (w ≡ some place)) ⊎ ((number ≡ 5 → ⊥) × NotBefore w place)

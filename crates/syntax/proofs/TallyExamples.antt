@@ -15,7 +15,8 @@ use Rattle.token.specs.Tokens.{listed, tokensFrom}
 use Rattle.syntax.specs.KindNames.{sign, name-kind, number-kind, bits-kind, dots, 'bit', 'bool', 'device', 'int', 'mask', 'port', 'read', 'register', 'trigger', 'variable', 'volatile', 'write', 'signed'}
 use Rattle.syntax.specs.Sizes.{ended, closed, asksOperand, onward, passesAt, nothingYet, tallied, longName, tooMuch, passedIn, passedAt}
 
--- what is named has just these kinds: a name, a number, a bits literal, the words and the signs, as the scanner computes them
+-- what is named has just these kinds: a name, a number, a bits literal, the words and the signs, as the scanner
+-- computes them
 pub kinds :
     map (λ (s : String). kindOf (scanAt (bytes s) 0 .token))
     ("x" ∷ "7" ∷ "'1'" ∷ "bit" ∷ "bool" ∷ "device" ∷ "int" ∷ "mask" ∷ "port" ∷ "read" ∷ "register" ∷ "trigger" ∷ "variable" ∷ "volatile" ∷ "write" ∷ "signed"
@@ -71,7 +72,8 @@ pieces = refl
 abbrev upToOffset : ℕ × String
 upToOffset = (1, "device d(b:bit[8] port){register r=b@")
 
--- Sixteen and seventeen deep: parentheses, minuses, mixed. Depth is nesting: neither what stands side by side adds up, nor a minus between two operands.
+-- Sixteen and seventeen deep: parentheses, minuses, mixed. Depth is nesting: neither what stands side by side adds up,
+-- nor a minus between two operands.
 pub depths :
     passed ((upToOffset ∷ (16, "(") ∷ (1, "1") ∷ (16, ")") ∷ (1, ":bit[8];") ∷ [])
     ∷ (upToOffset ∷ (17, "(") ∷ (1, "1") ∷ (17, ")") ∷ (1, ":bit[8];") ∷ [])

@@ -1,5 +1,5 @@
--- The reader of expressions agrees with the count of sizes: what it may still open and what the count holds open come to sixteen together.
--- Assumes nothing.
+-- The reader of expressions agrees with the count of sizes: what it may still open and what the count holds open come
+-- to sixteen together. Assumes nothing.
 use Prim.Native.Nat.{ℕ, zero, suc, _+_, _-_, _<_}
 use native.Mathlib.Omega.{arith}
 use mathlib.Core.Path.{_≡_, refl, sym, ap, _∙_, subst}

@@ -1,4 +1,5 @@
--- What reading a text comes to, in bytes, by the published grammar and the sizes of document 01: that it reads, or refusal 3, 4 or 5 with its place.
+-- What reading a text comes to, in bytes, by the published grammar and the sizes of document 01: that it reads, or
+-- refusal 3, 4 or 5 with its place.
 -- `proofs/Answers.antt` shows that the reader answers this and nothing else.
 use Prim.Native.Nat.{ℕ, _<_}
 use mathlib.Core.Path.{_≡_}
@@ -34,8 +35,8 @@ tokenNo text k = getD (tokensOf text) k (End (length text))
 abbrev pub InLanguage : List ℕ → Type 0
 InLanguage text = Text published device-spec (kindsOf text)
 
--- Refusals 3 and 4: `token` is the first such that no text of the grammar begins with the tokens up to this one. The number is 3 where it is no token at
--- all, else 4; the place is its first byte.
+-- Refusals 3 and 4: `token` is the first such that no text of the grammar begins with the tokens up to this one. The
+-- number is 3 where it is no token at all, else 4; the place is its first byte.
 pub record Stops (text : List ℕ) (number place : ℕ) : Type 0 where
   pub token : ℕ
   pub stops : StopsAt (Text published device-spec) (kindsOf text) token

@@ -1,4 +1,5 @@
--- The lists whose items are stored in a lent table, `item (sign item)*`: the ranges of a parameter, the pieces of a bit list.
+-- The lists whose items are stored in a lent table, `item (sign item)*`: the ranges of a parameter, the pieces of a bit
+-- list.
 use mathlib.Core.Bool.{cond}
 use Prim.Native.Nat.{ℕ}
 use mathlib.Core.List.{List}

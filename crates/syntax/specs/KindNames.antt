@@ -1,4 +1,5 @@
--- The kinds of the words and signs that the readers ask for, by name: a sign by 256 and its byte, a word by 512 and its number in document 01's list.
+-- The kinds of the words and signs that the readers ask for, by name: a sign by 256 and its byte, a word by 512 and its
+-- number in document 01's list.
 -- `proofs/TallyExamples.antt` holds each to what the scanner says of the word or sign itself.
 use Prim.Native.Nat.{ℕ, _+_}
 use Prim.Native.Char.{Char, code}

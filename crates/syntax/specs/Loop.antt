@@ -5,7 +5,8 @@ use mathlib.Core.List.{List}
 use Rattle.syntax.specs.declared.reader.Step.{Step}
 use Rattle.syntax.specs.Reader.{seenAt}
 
--- `P` is what the list answers, with its step. `room` is never used up where it is the text's length, as a turn takes some bytes.
+-- `P` is what the list answers, with its step. `room` is never used up where it is the text's length, as a turn takes
+-- some bytes.
 module _ {P : Type 0} (text : List ℕ) (step : P → Step) (tells : ℕ → Bool) (turn : P → P) where
   unfoldable pub loopWith : ℕ → P → P
   loopWith zero p = p

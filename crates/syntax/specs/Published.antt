@@ -1,5 +1,6 @@
--- THE GRAMMAR OF THE LANGUAGE, as 001 (sections 3 to 7) and 003 publish it and document 01 cuts it. It is to be believed: above each production stands its line
--- of BNF. What a grammar derives (`Text`, `StopsAt`) is defined in the crate `grammar`, for any grammar; how one is read is proved.
+-- THE GRAMMAR OF THE LANGUAGE, as 001 (sections 3 to 7) and 003 publish it and document 01 cuts it. It is to be
+-- believed: above each production stands its line of BNF. What a grammar derives (`Text`, `StopsAt`) is defined in the
+-- crate `grammar`, for any grammar; how one is read is proved.
 use Prim.Native.String.{String}
 use mathlib.Core.List.{[], _∷_}
 use Rattle.token.specs.declared.Token.the-variants.{Name, Number, Bits}
@@ -25,7 +26,8 @@ bits-literal = tok (kindOf (Bits 0 0))
 abbrev pub binary-operator : Grammar
 binary-operator = lit "+" ∣ lit "-" ∣ lit "*" ∣ lit "/" ∣ lit "%"
 
--- The one rule that recursion needs, number 0. It is ambiguous: precedence says how an expression is read, and not which there are.
+-- The one rule that recursion needs, number 0. It is ambiguous: precedence says how an expression is read, and not
+-- which there are.
 abbrev pub expr : Grammar
 expr = rule 0
 
@@ -88,7 +90,8 @@ abbrev pub variable-definition : Grammar
 variable-definition =
     lit "variable" ▸ ident ▸ lit "=" ▸ var-regs ▸ (opt (lit "," ▸ var-regs) ▸ many (lit "," ▸ var-attribute)) ▸ lit ":" ▸ type-expr
 
--- device-spec ::= device ident (device-params) { (object-def;)+ }, object-def ::= register-definition | variable-definition
+-- device-spec ::= device ident (device-params) { (object-def;)+ }, object-def ::= register-definition |
+-- variable-definition
 abbrev pub device-spec : Grammar
 device-spec =
     (lit "device" ▸ ident ▸ lit "(" ▸ separated (lit ",") device-param ▸ lit ")")

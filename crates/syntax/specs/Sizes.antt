@@ -1,5 +1,6 @@
--- Document 01, "Sizes" and refusal 5: at which token of a text a size is first passed. It is a count over the tokens from left to right, and knows nothing of
--- how a text is read. It is meant as far as the tokens begin a text of the grammar; from the token on that breaks it, refusal 3 or 4 is given before.
+-- Document 01, "Sizes" and refusal 5: at which token of a text a size is first passed. It is a count over the tokens
+-- from left to right, and knows nothing of how a text is read. It is meant as far as the tokens begin a text of the
+-- grammar; from the token on that breaks it, refusal 3 or 4 is given before.
 use Prim.Native.Nat.{ℕ, suc, _≤_}
 use mathlib.Core.Path.{_≡_}
 use mathlib.Core.Logic.{_⊎_}
@@ -86,8 +87,9 @@ onward (bracket n) k =
     (cond (eqb k (sign "]")) (piece n)
     (bracket n))
 
--- Whether a token of this kind passes a size at the spot. The first token of a parameter, range or piece too many does, whatever it is: where none can begin
--- with it, refusal 4 names the same token, and the lower number is given. In an offset a parenthesis or a minus does that as many enclose as may.
+-- Whether a token of this kind passes a size at the spot. The first token of a parameter, range or piece too many does,
+-- whatever it is: where none can begin with it, refusal 4 names the same token, and the lower number is given. In an
+-- offset a parenthesis or a minus does that as many enclose as may.
 unfoldable pub passesAt : Spot → ℕ → Bool
 passesAt front k = false
 passesAt (parameter n) k = ltb mostParameters n
@@ -148,7 +150,8 @@ abbrev pub NotBefore : Option ℕ → ℕ → Type 0
 NotBefore none p = Unit {0}
 NotBefore (some q) p = p ≤ q
 
--- A text that reads passes no size; refusal 5 is given at the place where one is first passed; any other, where none is passed before.
+-- A text that reads passes no size; refusal 5 is given at the place where one is first passed; any other, where none is
+-- passed before.
 unfoldable pub Kept : Option ℕ → Step → Type 0
 Kept passed (At end) = passed ≡ none
 Kept passed (Refused number place) = ((number ≡ 5) × (passed ≡ some place)) ⊎ ((number ≡ 5 → ⊥) × NotBefore passed place)

@@ -1,4 +1,5 @@
--- The whole text: `device name ( param (, param)* ) { (declaration ;)+ }` and then the end. It is read once, whatever a caller makes of what it declares.
+-- The whole text: `device name ( param (, param)* ) { (declaration ;)+ }` and then the end. It is read once, whatever a
+-- caller makes of what it declares.
 use Prim.Native.Nat.{ℕ, _+_}
 use mathlib.Core.Bool.{Bool, _||_, cond}
 use mathlib.Core.List.{List, [], _∷_, _++_}
@@ -18,7 +19,8 @@ use Rattle.syntax.specs.Register.{registerAfter}
 use Rattle.syntax.specs.Variable.{VariableRead, variableAfter}
 use Rattle.syntax.specs.Loop.{loopWith}
 
--- What a text declares, in its order: the device, each parameter, each register and variable; with the tables that their ranges and pieces stand in.
+-- What a text declares, in its order: the device, each parameter, each register and variable; with the tables that
+-- their ranges and pieces stand in.
 pub data Declaration : Type 0 where
   aDevice : Named → Declaration
   aParameter : ParameterRead → Declaration

@@ -1,4 +1,5 @@
-// A whole text: `device name ( param (, param)* ) { (declaration ;)+ }` and then the end. The reading alone, with nothing kept but the counts.
+// A whole text: `device name ( param (, param)* ) { (declaration ;)+ }` and then the end. The reading alone, with
+// nothing kept but the counts.
 use crate::heading;
 use crate::parameter;
 use crate::reader;

@@ -15,7 +15,8 @@ use Rattle.tables.specs.Tables.{RegisterPart, registerPartOf}
 use Rattle.tables.specs.Rules.{clashesAt, placeTaken, tells, toldApart}
 use Rattle.tables.proofs.Laws.{some-nowhere, some-none-at}
 
--- one bit of two masks, fixed (f, g) and `1` (o, p) or not: it does not tell them apart exactly where both, or neither, have a one that both fix
+-- one bit of two masks, fixed (f, g) and `1` (o, p) or not: it does not tell them apart exactly where both, or neither,
+-- have a one that both fix
 abbrev apart : Bool → Bool → Bool → Bool → Bool
 apart f o g p = ((f && not o) && (g && p)) || ((f && o) && (g && not p))
 
@@ -51,7 +52,8 @@ module _ (a b : RegisterPart) where
   bit-ones : (k o : ℕ) → bit k (ones o) ≡ (bit k o && (bit k (a .fixed) && bit k (b .fixed)))
   bit-ones k o = bit-and k o (bitAnd (a .fixed) (b .fixed)) ∙ ap (λ (d : Bool). bit k o && d) (bit-and k (a .fixed) (b .fixed))
 
-  -- "some bit is fixed 0 in one mask and 1 in the other", for masks of any width: exactly where the ones of the two differ under what both fix
+  -- "some bit is fixed 0 in one mask and 1 in the other", for masks of any width: exactly where the ones of the two
+  -- differ under what both fix
   pub told-apart-bit : (w : ℕ) → a .fixed < 2 ^ w → not (eqb (ones (a .ones)) (ones (b .ones))) ≡ some w (tells a b)
   told-apart-bit w h = go (eqb (ones (a .ones)) (ones (b .ones))) refl (some w (tells a b)) refl
     where

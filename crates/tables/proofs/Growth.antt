@@ -1,5 +1,6 @@
--- Tables that grow entry by entry: what holds of the entries so far, what one entry more needs, and that in the end the tables are sound.
--- A loop appends entry n, has it judged (`parameter_fault`, `register_fault`, `variable_fault` answer 0), and goes on.
+-- Tables that grow entry by entry: what holds of the entries so far, what one entry more needs, and that in the end the
+-- tables are sound. A loop appends entry n, has it judged (`parameter_fault`, `register_fault`, `variable_fault` answer
+-- 0), and goes on.
 use Prim.Native.Nat.{ℕ, zero, suc, _+_, _-_, _*_, _<_, _≤_}
 use native.Mathlib.Omega.{arith}
 use mathlib.Core.Path.{_≡_, refl, sym, ap, _∙_, subst}
@@ -197,7 +198,8 @@ mapped-same a b n shapes same m = record { read = before-same 0 (omega arith) (m
         }
 
 -- ---- at the end
--- what was built entry by entry, with counts in range and every dot mapped, is sound: the loader's "accepted" implies it
+-- what was built entry by entry, with counts in range and every dot mapped, is sound: the loader's "accepted" implies
+-- it
 pub so-far-sound : (ps rs vs : List ℕ) → tablesFit ps rs vs ≡ true → SoFar ps rs vs
     → every (countOf rs) (λ i. covered rs vs (countOf vs) 0 i && covered rs vs (countOf vs) 1 i) ≡ true → sound ps rs vs ≡ true
 unfolding sound restZero shapesFit rulesKept parameterGood registerGood variableGood

@@ -1,4 +1,5 @@
--- What the numbers that a part enters into its map tell: of a bit, whether it is one of the part's bits; of a register, whether the part holds it.
+-- What the numbers that a part enters into its map tell: of a bit, whether it is one of the part's bits; of a register,
+-- whether the part holds it.
 use Prim.Native.Nat.{ℕ, zero, suc, _+_, _-_, _*_, _<_, _≤_}
 use native.Mathlib.Omega.{arith}
 use mathlib.Core.Path.{_≡_, refl, sym, ap, ap₂, _∙_}

@@ -1,4 +1,5 @@
--- The masks of sound tables: each element is one of `.`, `0`, `1` and `*`. A dot is not fixed, and what is `1` is fixed, so it is no dot.
+-- The masks of sound tables: each element is one of `.`, `0`, `1` and `*`. A dot is not fixed, and what is `1` is
+-- fixed, so it is no dot.
 use Prim.Native.Nat.{ℕ, _<_, _≤_, _^_}
 use native.Mathlib.Omega.{arith}
 use mathlib.Core.Path.{_≡_, refl, sym, ap, _∙_}

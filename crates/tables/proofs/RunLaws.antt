@@ -1,4 +1,5 @@
--- A run of bits that are all set, as one comparison; and a loop over the bits of a number that ends behind the last that is set.
+-- A run of bits that are all set, as one comparison; and a loop over the bits of a number that ends behind the last
+-- that is set.
 use Prim.Native.Nat.{ℕ, zero, suc, _+_, _-_, _*_, _/_, _%_, _^_, _<_, _≤_}
 use native.Mathlib.Omega.{arith}
 use native.Mathlib.Nat.{add-suc, div-div-eq-div-mul, div-eq-of-lt, lt-of-lt-of-le}

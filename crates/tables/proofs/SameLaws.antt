@@ -1,5 +1,7 @@
--- What is judged of entry i depends on the words up to its end alone (and, of a register, on the parameters; of a variable, on the registers):
--- two tables with the same words there are judged alike. So what was judged when an entry was appended holds when others follow.
+-- What is judged of entry i depends on the words up to its end alone (and, of a register, on the parameters; of a
+-- variable, on the registers):
+-- two tables with the same words there are judged alike. So what was judged when an entry was appended holds when
+-- others follow.
 use Prim.Native.Nat.{ℕ, zero, suc, _+_, _-_, _*_, _<_, _≤_}
 use native.Mathlib.Omega.{arith}
 use mathlib.Core.Path.{_≡_, refl, sym, ap, ap₂, _∙_}

@@ -1,4 +1,5 @@
--- The zeros at the front of a list, one by one: `zeros` is a walk along the list, so that it computes in as many steps as there are words.
+-- The zeros at the front of a list, one by one: `zeros` is a walk along the list, so that it computes in as many steps
+-- as there are words.
 use Prim.Native.Nat.{ℕ, zero, suc, _+_, _-_, _≤_, _<_}
 use native.Mathlib.Omega.{arith}
 use mathlib.Core.Path.{_≡_, refl, sym, ap, ap₂, _∙_}

@@ -121,8 +121,8 @@ right (x ∷ s) (block opened) i =
     (λ e. block-goes-on x i _ opened s e (right s (block opened) (i + 1)))
 right (x ∷ s) (pair then) i = right s then (i + 1)
 
--- WHAT IS PASSED OVER, for any text and any place: from there to the token that is found stand blanks and comments alone, and where the
--- token stands neither begins; where a block comment opens there, it is never closed
+-- WHAT IS PASSED OVER, for any text and any place: from there to the token that is found stand blanks and comments
+-- alone, and where the token stands neither begins; where a block comment opens there, it is never closed
 pub scan-passed :
     (text : List ℕ) (at : ℕ)
     → Passed (drop at text) (drop (placeOf (scanAt text at .token)) text) × Stops (drop (placeOf (scanAt text at .token)) text)

@@ -1,5 +1,5 @@
--- The reader takes the longest match: the slice that a token takes is a lexeme of its kind, and no longer slice from there is a lexeme
--- at all. Assumes nothing.
+-- The reader takes the longest match: the slice that a token takes is a lexeme of its kind, and no longer slice from
+-- there is a lexeme at all. Assumes nothing.
 use mathlib.Core.List.{List, [], _∷_}
 use mathlib.Core.Logic.{⊎-elim}
 use mathlib.Core.Path.{_≡_, refl, sym, ap, _∙_}
@@ -45,8 +45,8 @@ scan-place text at =
     let place = gapAt text gap at in
     rw (scan-past text at, token-taken (drop place text) (min place (length text)) .0) (same-rest text place)
 
--- THE LONGEST MATCH, for any text and any place: the token that is found takes the longest slice from its own place that may be a token;
--- it is the end only where no byte is left, and bad only as refusal 3 says
+-- THE LONGEST MATCH, for any text and any place: the token that is found takes the longest slice from its own place
+-- that may be a token; it is the end only where no byte is left, and bad only as refusal 3 says
 pub scan-longest :
     (text : List ℕ) (at : ℕ)
     → Longest (drop (placeOf (scanAt text at .token)) text) (scanAt text at .next - placeOf (scanAt text at .token)) (scanAt text at .token)

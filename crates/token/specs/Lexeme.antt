@@ -1,5 +1,5 @@
--- What a token's bytes may be: section 2 of 001 as tests on whole slices, with nothing said of how they are found. The theorem of
--- proofs/Longest.antt is that the reader always takes the longest such slice.
+-- What a token's bytes may be: section 2 of 001 as tests on whole slices, with nothing said of how they are found. The
+-- theorem of proofs/Longest.antt is that the reader always takes the longest such slice.
 use mathlib.Core.Bool.{Bool, true, false, _&&_, _||_}
 use mathlib.Core.List.{List, [], _∷_}
 use mathlib.Core.Logic.{_⊎_}
@@ -99,9 +99,10 @@ Lexeme (Bad place) s = ⊥
 abbrev pub NoneLonger : List ℕ → ℕ → Type 0
 NoneLonger s n = (m : ℕ) → n < m → m ≤ length s → isLexeme (take m s) ≡ false
 
--- 01, refusal 3, in its words, at the front of s: "no token begins here, a .. bits literal is unclosed, .. empty or holds another
--- character", "a comment .. is unclosed", "or a number is too large", which is then the longest match. A comment's opening pair that is
--- left where a token is due is unclosed, as specs/Passed.antt says of what is passed before a token
+-- 01, refusal 3, in its words, at the front of s: "no token begins here, a .. bits literal is unclosed, .. empty or
+-- holds another character", "a comment .. is unclosed", "or a number is too large", which is then the longest match. A
+-- comment's opening pair that is left where a token is due is unclosed, as specs/Passed.antt says of what is passed
+-- before a token
 abbrev pub NoToken : List ℕ → Type 0
 NoToken s =
     NoneLonger s 0

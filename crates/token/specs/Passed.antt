@@ -1,6 +1,6 @@
--- What stands between tokens, as the papers say it, with nothing said of how it is passed over (001 section 2, "Blanks" and "Comments"; 01,
--- "Tokens"). `Passed s r` says of the bytes of s that stand before its tail r. That the reader passes over just this is the theorem
--- of proofs/Gaps.antt.
+-- What stands between tokens, as the papers say it, with nothing said of how it is passed over (001 section 2, "Blanks"
+-- and "Comments"; 01, "Tokens"). `Passed s r` says of the bytes of s that stand before its tail r. That the reader
+-- passes over just this is the theorem of proofs/Gaps.antt.
 use mathlib.Core.Bool.{true, false}
 use mathlib.Core.List.{List, [], _∷_}
 use mathlib.Core.Path.{_≡_}

@@ -1,4 +1,5 @@
--- How a reserved word is found: no part of what it means. A name has a slot, by its length, its first byte and its middle one.
+-- How a reserved word is found: no part of what it means. A name has a slot, by its length, its first byte and its
+-- middle one.
 use mathlib.Core.List.{List}
 use Prim.Native.Nat.{ℕ, _+_, _*_, _/_, _%_}
 use lib.Dec.{eqb}

@@ -1,4 +1,5 @@
--- All the tokens of a text, with their places, the end last. A bad token takes all the rest of the text, so that after it only the end comes.
+-- All the tokens of a text, with their places, the end last. A bad token takes all the rest of the text, so that after
+-- it only the end comes.
 use mathlib.Core.Bool.{true, false}
 use mathlib.Core.List.{List, [], _∷_}
 use Prim.Native.Nat.{ℕ, zero, suc, _+_, _-_, min}

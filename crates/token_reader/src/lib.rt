@@ -1,5 +1,6 @@
-// The token reader as a record of a text and a place in it (document 01, "Tokens"). Its calls are thin: the work is `token::scan`'s.
-// The borrow checker covers no function that takes, makes or holds a record with a reference in it, so each is proved by hand;
+// The token reader as a record of a text and a place in it (document 01, "Tokens"). Its calls are thin: the work is
+// `token::scan`'s. The borrow checker covers no function that takes, makes or holds a record with a reference in it, so
+// each is proved by hand;
 // `scan_at` has plain parameters, and whoever reads tokens through it needs no such proof.
 use token::Scanned;
 use token::Token;

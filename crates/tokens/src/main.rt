@@ -1,5 +1,6 @@
-// For each framed text on standard input, a line with its tokens up to the end or a bad one, and a line that says whether it
-// reads, with the counts of parameters, registers and variables, or which refusal stops the reading, and where.
+// For each framed text on standard input, a line with its tokens up to the end or a bad one, and a line that says
+// whether it reads, with the counts of parameters, registers and variables, or which refusal stops the reading, and
+// where.
 use frames::Frame;
 use syntax::Step;
 use token::Token;

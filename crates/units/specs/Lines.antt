@@ -1,5 +1,6 @@
--- What the program writes for one record (02, No. 10): "a program over whole 20-byte input records, low byte first (gain,
--- offset, unsigned 32-bit reading), writing 16 hex digits or the refusal a line". Doubles come in and go out as 64 bits.
+-- What the program writes for one record (02, No. 10): "a program over whole 20-byte input records, low byte first
+-- (gain, offset, unsigned 32-bit reading), writing 16 hex digits or the refusal a line". Doubles come in and go out as
+-- 64 bits.
 use Prim.Native.Nat.{ℕ}
 use lib.IntN.{pos}
 use lib.Ieee.{Float, nan, inf, fin, binary64, ofBits, toBits}

@@ -1,4 +1,5 @@
-// The numbers made bit by bit: the byte to write, the value with one more byte read into it, and what may have been gathered.
+// The numbers made bit by bit: the byte to write, the value with one more byte read into it, and what may have been
+// gathered.
 ghost use mathlib.Core.Path.{_≡_};
 ghost use Prim.Native.Nat.{_≤_};
 ghost use Rattle.bits.specs.Widths.{widest};

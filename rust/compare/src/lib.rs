@@ -4,6 +4,7 @@ pub mod archive;
 pub mod both;
 pub mod lives;
 pub mod plot;
+pub mod programs;
 pub mod proved;
 pub mod seen;
 pub mod soak;

@@ -2,10 +2,7 @@
 //! taken and every word of the tables after it. The program `arrivals` is run on generated scripts;
 //! `rt check arrivals` builds it.
 
-use std::io::Write;
-use std::path::{Path, PathBuf};
-use std::process::{Command, Stdio};
-
+use compare::programs::written;
 use compare::proved;
 use compare::seen::Seen;
 use desfanuk::raw::{self, STORE_BYTES};
@@ -207,27 +204,9 @@ fn any_number_taken() {
     assert!(tables.iter().flatten().all(|word| *word == 7));
 }
 
-fn root() -> PathBuf {
-    Path::new(env!("CARGO_MANIFEST_DIR")).join("../..")
-}
-
 /// What the program `arrivals` writes.
 fn played(input: &[u8]) -> String {
-    let program = root().join("target/bin/arrivals");
-    assert!(program.exists(), "run `rt check arrivals` first");
-    let mut child = Command::new(root().join("run"))
-        .arg(program)
-        .stdin(Stdio::piped())
-        .stdout(Stdio::piped())
-        .spawn()
-        .unwrap();
-    let mut stdin = child.stdin.take().unwrap();
-    let input = input.to_vec();
-    let writer = std::thread::spawn(move || stdin.write_all(&input).unwrap());
-    let output = child.wait_with_output().unwrap();
-    writer.join().unwrap();
-    assert!(output.status.success());
-    String::from_utf8(output.stdout).unwrap()
+    written("arrivals", input)
 }
 
 /// Scripts of generated pieces, each by itself and all in frames, as the second implementation

@@ -1,11 +1,8 @@
 //! Readings in units: the proved program against ordinary Rust arithmetic on 100,000 generated records, and the proved
 //! calls against the second implementation's on generated runs.
 
-use std::io::Write;
-use std::path::Path;
-use std::process::{Command, Stdio};
-
 use compare::both::Both;
+use compare::programs::written;
 use compare::seen::Seen;
 use second::generate::{calibrated_run, calibration, reading, valid, Random, TableSet};
 use second::replay::Call;
@@ -24,23 +21,6 @@ fn ordinary(gain: f64, offset: f64, reading: u32) -> String {
     format!("{:016X}", sum.to_bits())
 }
 
-/// The lines of the proved program.
-fn proved(input: Vec<u8>) -> Vec<String> {
-    let run = Path::new(env!("CARGO_MANIFEST_DIR")).join("../../run");
-    let mut child = Command::new(run)
-        .arg("readings")
-        .stdin(Stdio::piped())
-        .stdout(Stdio::piped())
-        .spawn()
-        .expect("it runs: rt check readings builds it");
-    let mut stdin = child.stdin.take().expect("its input");
-    let feeder = std::thread::spawn(move || stdin.write_all(&input));
-    let output = child.wait_with_output().expect("it ends");
-    feeder.join().expect("fed").expect("all of it");
-    let text = String::from_utf8(output.stdout).expect("lines");
-    text.lines().map(str::to_string).collect()
-}
-
 #[test]
 fn a_hundred_thousand_records() {
     let mut random = Random::new(1001);
@@ -56,7 +36,8 @@ fn a_hundred_thousand_records() {
     assert_eq!(units::readings(&input), want);
     // Most of a record more writes nothing.
     input.extend([0; 19]);
-    assert_eq!(proved(input), want);
+    let lines = written("readings", &input);
+    assert!(lines.lines().eq(want), "the proved program");
 }
 
 /// A station over a text.

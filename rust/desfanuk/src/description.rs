@@ -2,18 +2,15 @@
 
 use std::error::Error;
 use std::fmt;
-use std::ops::RangeInclusive;
 
+use crate::cause::cause;
 use crate::raw::{self, PARAMETERS_WORDS, REGISTERS_WORDS, VARIABLES_WORDS, VERDICT_WORDS};
 use crate::{Number, Refusal};
 
 /// Words of an entry of each table; its name's place and length come first.
-const PARAMETER_ENTRY: usize = 36;
-const REGISTER_ENTRY: usize = 15;
-const VARIABLE_ENTRY: usize = 59;
-
-/// The kind of a `signed int`.
-const SIGNED: u32 = 1;
+pub(crate) const PARAMETER_ENTRY: usize = 36;
+pub(crate) const REGISTER_ENTRY: usize = 15;
+pub(crate) const VARIABLE_ENTRY: usize = 59;
 
 /// The answer to a text.
 #[derive(Clone, Copy, Debug, PartialEq, Eq)]
@@ -34,19 +31,42 @@ pub struct Refused {
     pub refusal: Refusal,
     /// Where in the text, as a number of bytes before it.
     pub place: usize,
+    /// The line of the place, from 1.
+    pub line: usize,
+    /// Its column, in bytes from 1.
+    pub column: usize,
+    /// What breaks the rule: of all that the refusal stands for, the one that is so here.
+    pub cause: &'static str,
+}
+
+impl Refused {
+    fn of(refusal: Refusal, place: usize, text: &[u8]) -> Refused {
+        let before = &text[..place.min(text.len())];
+        let is_end = |&b: &u8| b == b'\n';
+        let start = before.iter().rposition(is_end);
+        Refused {
+            refusal,
+            place,
+            line: 1 + before.iter().filter(|b| is_end(b)).count(),
+            column: 1 + before.len() - start.map_or(0, |at| at + 1),
+            cause: cause(text, refusal, place),
+        }
+    }
 }
 
 impl Verdict {
-    pub(crate) fn of(words: [u64; VERDICT_WORDS]) -> Verdict {
+    /// The verdict on a text that words tell.
+    pub(crate) fn of(words: [u64; VERDICT_WORDS], text: &[u8]) -> Verdict {
         let number = |word: u64| usize::try_from(word).expect("a number of a verdict");
         match words {
-            [0, refusal, place, 0] => Verdict::Refused(Refused {
-                refusal: u8::try_from(refusal)
+            [0, refusal, place, 0] => Verdict::Refused(Refused::of(
+                u8::try_from(refusal)
                     .ok()
                     .and_then(Refusal::of)
                     .expect("a refusal's number"),
-                place: number(place),
-            }),
+                number(place),
+                text,
+            )),
             [1, parameters, registers, variables] => Verdict::Accepted {
                 parameters: number(parameters),
                 registers: number(registers),
@@ -66,7 +86,7 @@ impl fmt::Display for Verdict {
                 registers,
                 variables,
             } => write!(f, "accepted {parameters} {registers} {variables}"),
-            Verdict::Refused(Refused { refusal, place }) => {
+            Verdict::Refused(Refused { refusal, place, .. }) => {
                 write!(f, "refused {} {place}", refusal.number())
             }
         }
@@ -75,7 +95,18 @@ impl fmt::Display for Verdict {
 
 impl fmt::Display for Refused {
     fn fmt(&self, f: &mut fmt::Formatter<'_>) -> fmt::Result {
-        write!(f, "{}, at byte {}", self.refusal, self.place)
+        let Refused {
+            refusal,
+            line,
+            column,
+            cause,
+            ..
+        } = self;
+        let number = refusal.number();
+        write!(
+            f,
+            "refused ({number}), line {line}, column {column}: {cause}"
+        )
     }
 }
 
@@ -110,11 +141,11 @@ impl Tables {
             &mut self.variables,
             &mut words,
         );
-        Verdict::of(words)
+        Verdict::of(words, text)
     }
 
     /// Ends a text in pieces, and loads it as `load` does.
-    pub(crate) fn end(&mut self, store: &[u8], taken: &mut [u64]) -> Verdict {
+    pub(crate) fn end(&mut self, text: &[u8], store: &[u8], taken: &mut [u64]) -> Verdict {
         let mut words = [0; VERDICT_WORDS];
         raw::end_pieces(
             store,
@@ -124,7 +155,7 @@ impl Tables {
             &mut self.variables,
             &mut words,
         );
-        Verdict::of(words)
+        Verdict::of(words, text)
     }
 
     /// The words, lent to the calls.
@@ -236,17 +267,6 @@ impl Description {
     pub(crate) fn variable_name(&self, index: usize) -> &str {
         let name = self.name(&self.tables.variables, VARIABLE_ENTRY, index);
         name.expect("a variable of this description")
-    }
-
-    /// The values that the type of this variable has.
-    pub(crate) fn variable_range(&self, index: usize) -> RangeInclusive<i64> {
-        let [kind, width] = [3, 4].map(|word| self.tables.variables[VARIABLE_ENTRY * index + word]);
-        if kind == SIGNED {
-            let half = 1 << (width - 1);
-            -half..=half - 1
-        } else {
-            0..=(1 << width) - 1
-        }
     }
 
     fn name(&self, table: &[u32], entry: usize, index: usize) -> Option<&str> {

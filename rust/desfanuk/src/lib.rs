@@ -48,7 +48,8 @@
 //! confirming, and abandon the operation when it fails: see [`Ports`]. `examples/score.rs` is a
 //! whole program. [`Station::read_in_units`] reads in lux, volts or degrees.
 //!
-//! A description that arrives in pieces, from a file or over a line, goes into [`Pieces`].
+//! A description that arrives in pieces, from a file or over a line, goes into [`Pieces`]. What an
+//! accepted one says of each bit is told by [`Description::register_part`] and [`Variable::part`].
 //!
 //! # A station that stops
 //!
@@ -64,7 +65,8 @@
 //!
 //! ```
 //! # use std::collections::BTreeSet;
-//! # use desfanuk::{Access, Answer, Described, Description, Direction, Done, Number, Ports, Refusal, Station, Stopped, Variable};
+//! # use desfanuk::{Access, Answer, Described, Description, Direction, Done};
+//! # use desfanuk::{Number, Ports, Refusal, Station, Stopped, Variable};
 //! # type List = BTreeSet<usize>;
 //! fn write<'d, P: Ports>(
 //!     station: &mut Station<'d>, list: &mut List, variable: Variable<'d>, value: i64, ports: &mut P,
@@ -137,7 +139,9 @@
 //! station is gone, as after a loss of power; [`Station::open_again`] does it in place. Who shares a
 //! board between threads shares the one station, behind a lock that is held for a whole operation.
 
+mod cause;
 mod description;
+mod layout;
 mod pieces;
 mod refusal;
 mod station;
@@ -148,6 +152,7 @@ mod variable;
 pub mod raw;
 
 pub use description::{Description, Refused, Tables, Verdict};
+pub use layout::{Kind, Piece, RegisterPart, VariablePart};
 pub use pieces::Pieces;
 pub use refusal::Refusal;
 pub use station::{Access, Answer, Direction, Number, Operation, Station};

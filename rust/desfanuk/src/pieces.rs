@@ -55,7 +55,7 @@ impl Pieces {
         );
         match words {
             [2, 0, 0, 0] => Ok(()),
-            words => match Verdict::of(words) {
+            words => match Verdict::of(words, &[]) {
                 Verdict::Refused(refused) => Err(refused),
                 Verdict::Accepted { .. } => unreachable!("a piece is not accepted: {words:?}"),
             },
@@ -69,7 +69,7 @@ impl Pieces {
             .and_then(|taken| self.store.get(..taken))
             .unwrap_or_default()
             .to_vec();
-        match self.tables.end(&self.store, &mut self.taken) {
+        match self.tables.end(&text, &self.store, &mut self.taken) {
             Verdict::Accepted { .. } => Ok(Description::of(text, self.tables.clone())),
             Verdict::Refused(refused) => Err(refused),
         }

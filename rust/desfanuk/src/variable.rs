@@ -4,7 +4,9 @@ use std::fmt;
 use std::marker::PhantomData;
 use std::ops::{Deref, RangeInclusive};
 
-use crate::{raw, Description};
+use crate::description::VARIABLE_ENTRY;
+use crate::layout::entry;
+use crate::{raw, Description, Kind};
 
 /// A description in use ([`Description::with`]): it finds variables and opens stations, and they belong
 /// to it. No other description in use has this `'d`, and none can be made to have it.
@@ -103,6 +105,11 @@ impl<'d> Described<'d> {
     pub fn variable_at(self, index: usize) -> Option<Variable<'d>> {
         (index < self.variables()).then_some(Variable { of: self, index })
     }
+
+    /// Each of its variables, in the order of the text.
+    pub fn each_variable(self) -> impl Iterator<Item = Variable<'d>> {
+        (0..self.variables()).map(move |index| Variable { of: self, index })
+    }
 }
 
 impl Deref for Described<'_> {
@@ -135,7 +142,17 @@ impl<'d> Variable<'d> {
     /// The values that its type has, from the least to the greatest. A write of another one is refused:
     /// below the least by 27, above the greatest by 55.
     pub fn range(self) -> RangeInclusive<i64> {
-        self.of.description.variable_range(self.index)
+        let width = self.width();
+        match self.kind() {
+            Kind::SignedInt => -(1 << (width - 1))..=(1 << (width - 1)) - 1,
+            Kind::Int | Kind::Bool => 0..=(1 << width) - 1,
+        }
+    }
+
+    /// Its entry of the table of variables.
+    pub(crate) fn words(self) -> &'d [u32] {
+        let table = self.of.description.tables().words().variables;
+        entry(table, VARIABLE_ENTRY, self.index).expect("a variable of this description")
     }
 }
 

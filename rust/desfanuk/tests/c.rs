@@ -134,6 +134,78 @@ fn the_example_tells_the_same_story_in_c_and_in_rust() {
     assert_eq!(String::from_utf8_lossy(&told.stdout), want);
 }
 
+/// What a program of a few lines over desfanuk_station.h writes. It compiles as C and as C++, with
+/// every warning.
+fn written(name: &str, body: &str) -> String {
+    let source = scratch(&format!("{name}.c"));
+    let program = format!(
+        "#include \"desfanuk_station.h\"\n#include <stdio.h>\n\
+         int main(void)\n{{\n{body}\nreturn 0;\n}}\n"
+    );
+    fs::write(&source, program).expect("written");
+    compile(&["-x", "c++", "-std=c++98", "-fsyntax-only"], &[&source]);
+    let program = scratch(name);
+    let whole = [&source, &archive(), Path::new("-o"), &program];
+    compile(&["-std=c99"], &whole);
+    let output = Command::new(of_repository("run")).arg(program).output();
+    let output = output.expect("it runs");
+    assert!(output.status.success());
+    String::from_utf8(output.stdout).expect("words")
+}
+
+#[test]
+fn numbers_have_the_same_words_in_c_and_in_rust() {
+    let told = written(
+        "words",
+        "int n; for (n = 0; n < 256; n++) printf(\"%s\\n\", desfanuk_words((uint64_t)n));",
+    );
+    let told: Vec<&str> = told.lines().collect();
+    let want = (0..=255).map(|number| Refusal::of(number).map_or("", Refusal::words));
+    assert_eq!(told, want.collect::<Vec<&str>>());
+}
+
+/// One struct through a load, a place, an opening, a read in units, and indices that there are not.
+#[test]
+fn one_struct_is_enough_in_c() {
+    let told = written(
+        "struct",
+        r#"static const char text[] =
+"device d(b : bit[8] port @ {0..1}) {\n  register r = b @ 0 : bit[8];\n"
+"  register s = b @ 1, mask '0...1...' : bit[8];\n"
+"  variable v = r : int(8); variable w = s[6..4] # s[2..0] : signed int(6); }";
+static const uint32_t power[2] = {0, 0};
+static struct desfanuk d;
+size_t w;
+printf("%d ", (int)desfanuk_station_load(&d, text, sizeof text - 2));
+printf("%d:%d ", (int)desfanuk_station_line(&d), (int)desfanuk_station_column(&d));
+printf("%d\n", (int)desfanuk_station_load(&d, text, sizeof text - 1));
+w = desfanuk_station_variable(&d, "w");
+printf("%d ", (int)desfanuk_station_begin_read(&d, w));
+printf("%d\n", (int)desfanuk_station_open(&d, power, 2));
+printf("%d ", (int)desfanuk_station_begin_read(&d, desfanuk_station_variable(&d, "x")));
+printf("%ld..%ld ", (long)desfanuk_station_least(&d, w), (long)desfanuk_station_greatest(&d, w));
+printf("%ld\n", (long)desfanuk_station_greatest(&d, (size_t)-1));
+printf("%d ", (int)desfanuk_station_begin_read_in_units(&d, w, 0.5, 100.0));
+printf("%d ", (int)desfanuk_station_access(&d).offset);
+printf("%d ", (int)desfanuk_station_confirm(&d, 0x7E));
+printf("%d %g ", desfanuk_station_is_done_in_units(&d), desfanuk_station_reading(&d));
+printf("%d\n", (int)desfanuk_station_accesses(&d));
+printf("%d ", (int)desfanuk_station_begin_read(&d, w));
+printf("%d ", (int)desfanuk_station_confirm(&d, 0xFF));
+printf("%d ", desfanuk_station_is_contradicted(&d));
+printf("%.*s ", (int)desfanuk_station_name_length(&d, desfanuk_station_blamed(&d)),
+       desfanuk_station_name(&d, desfanuk_station_blamed(&d)));
+printf("%x ", (unsigned)desfanuk_station_contradicting(&d, 1, 0xFF));
+printf("%s%d\n", desfanuk_station_name(&d, 64), (int)desfanuk_station_width(&d, 64));
+printf("%d ", (int)desfanuk_station_begin_write(&d, w, -32));
+printf("%x ", (unsigned)desfanuk_station_access(&d).number);
+printf("%d ", (int)desfanuk_station_abandon(&d));
+printf("%d\n", (int)desfanuk_station_begin_read(&d, w));"#,
+    );
+    let want = "4 4:76 0\n21 0\n25 -32..31 0\n0 1 0 1 99 1\n0 52 1 s 80 0\n0 48 0 28\n";
+    assert_eq!(told, want);
+}
+
 /// A text in three pieces and in one; and a text that its second piece, of one byte, makes too long.
 #[test]
 fn pieces_are_answered_alike_in_c_and_in_rust() {

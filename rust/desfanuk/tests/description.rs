@@ -69,11 +69,11 @@ fn names_are_looked_up_and_told() {
 #[test]
 fn a_refused_text_is_told_in_words() {
     let refused = Description::load(A.replace("v=r", "v=q")).expect_err("no q");
-    let Refused { refusal, place } = refused;
+    let Refused { refusal, place, .. } = refused;
     assert_eq!((refusal, place), (Refusal::Undeclared, 61));
     assert_eq!(
         refused.to_string(),
-        "refused (7): a port names no parameter, or a piece no register, declared earlier, at byte 61"
+        "refused (7), line 1, column 62: a piece names no register declared earlier"
     );
 }
 
@@ -112,21 +112,33 @@ fn every_board_is_accepted() {
     assert!(boards >= 10);
 }
 
-/// Each refusal's words are those of docs/REFUSALS.md, links left out, and none is missing.
+/// The refusals of docs/REFUSALS.md, links left out. A row without a number goes on with the row above it.
+fn documented(page: &str) -> Vec<(u8, String)> {
+    let mut refusals: Vec<(u8, String)> = Vec::new();
+    for table in page.split("| No. |").skip(1) {
+        for row in table.lines().skip(2).take_while(|l| l.starts_with('|')) {
+            let cells: Vec<&str> = row.split('|').map(str::trim).collect();
+            let words = cells[2].split(" ([").next().expect("words");
+            match cells[1].parse() {
+                Ok(number) => refusals.push((number, words.to_string())),
+                Err(_) => {
+                    let (_, above) = refusals.last_mut().expect("a row with a number");
+                    *above = format!("{above} {words}");
+                }
+            }
+        }
+    }
+    refusals
+}
+
+/// Each refusal's words are those of docs/REFUSALS.md, and none is missing.
 #[test]
 fn refusals_are_told_as_documented() {
     let page = fs::read_to_string(of_repository("docs/REFUSALS.md")).expect("the page");
-    let rows: Vec<(u8, &str)> = page
-        .lines()
-        .filter_map(|line| {
-            let mut cells = line.split('|').map(str::trim).skip(1);
-            let number = cells.next()?.parse().ok()?;
-            Some((number, cells.next()?.split(" ([").next()?))
-        })
-        .collect();
-    let told: Vec<(u8, &str)> = Refusal::ALL
+    let told: Vec<(u8, String)> = Refusal::ALL
         .iter()
-        .map(|refusal| (refusal.number(), refusal.words()))
+        .map(|refusal| (refusal.number(), refusal.words().to_string()))
         .collect();
-    assert_eq!(told, rows, "src/refusal.rs beside docs/REFUSALS.md");
+    let documented = documented(&page);
+    assert_eq!(told, documented, "src/refusal.rs beside docs/REFUSALS.md");
 }

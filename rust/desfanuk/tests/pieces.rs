@@ -10,6 +10,9 @@ const A: &str = "device d(base:bit[8] port){register r=base:bit[8];variable v=r:
 const TOO_LONG: Refused = Refused {
     refusal: Refusal::LongText,
     place: 0,
+    line: 1,
+    column: 1,
+    cause: "the text has more than 8,192 bytes",
 };
 
 /// The description, or what refuses it, is that of the whole text, wherever it is cut; and each end

@@ -32,7 +32,8 @@ fn open_again<'d>(board: Described<'d>, cells: &[Number], list: &List) -> Result
     Ok(station)
 }
 
-/// The scoring board, of which only the score is used: after so many accesses the power is gone, and the next one was performed or not.
+/// The scoring board, of which only the score is used: after so many accesses the power is gone, and the next one was
+/// performed or not.
 #[derive(Clone)]
 struct Board {
     cells: [Number; 5],

@@ -9,7 +9,8 @@ pub struct Argument {
     pub shape: String,
 }
 
-/// The laws of a file: what stands between blank lines, comments left out. Definitions and the heads of modules are none. A line that only says what to unfold is not counted.
+/// The laws of a file: what stands between blank lines, comments left out. Definitions and the heads of modules are
+/// none. A line that only says what to unfold is not counted.
 pub fn laws(text: &str) -> Vec<Argument> {
     let plain =
         |l: &&str| !l.trim_start().starts_with("--") && !l.trim_start().starts_with("module ");
@@ -44,7 +45,8 @@ fn is_law(block: &[&str]) -> bool {
     !defined
 }
 
-/// What a function's proof argues itself: its clauses, but for those that the checker finds, that hold by facts at hand, or that cite a law on such facts.
+/// What a function's proof argues itself: its clauses, but for those that the checker finds, that hold by facts at
+/// hand, or that cite a law on such facts.
 pub fn argued(name: &str, text: &str) -> Argument {
     let own = clauses(text).into_iter().filter(|c| argues(c));
     let own: Vec<String> = own.map(|c| shape(&c)).collect();
@@ -55,7 +57,8 @@ pub fn argued(name: &str, text: &str) -> Argument {
     }
 }
 
-/// The clauses `need facts = argument` of a function's proof, each on a line; not its invariants, which are statements, nor the last line, which lists the needs.
+/// The clauses `need facts = argument` of a function's proof, each on a line; not its invariants, which are statements,
+/// nor the last line, which lists the needs.
 fn clauses(text: &str) -> Vec<String> {
     let mut found: Vec<String> = Vec::new();
     let mut open = false;

@@ -20,7 +20,7 @@ mod token;
 pub mod units;
 
 pub use description::{
-    Bits, Description, Kind, Mask, Name, OffsetRange, Parameter, Part, Piece, Port, Register,
+    all_bits, Bits, Description, Kind, Mask, Name, OffsetRange, Parameter, Part, Piece, Port, Register,
     Variable, PARTS, WIDTHS,
 };
 pub use load::{load, outline, Counts, Outline, Refusal, Verdict, TEXT_BYTES};

@@ -128,8 +128,8 @@ fn read<'t>(text: &'t [u8], mut each: impl FnMut(Declared<'t>)) -> Result<Counts
     })
 }
 
-/// Each declaration is judged (6 to 15) as soon as it is read, but the first rule broken waits until the text has been read
-/// to its end.
+/// Each declaration is judged (6 to 15) as soon as it is read, but the first rule broken waits until the text has been
+/// read to its end.
 fn describe(text: &[u8]) -> Result<Description, Refusal> {
     if text.len() > TEXT_BYTES {
         return Err(Refusal {

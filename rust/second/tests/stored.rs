@@ -107,8 +107,8 @@ fn every_number_is_there() {
     }
 }
 
-/// Every answer of a call, and every refusal that sound tables leave, stands among the stored scripts; and they fit into the
-/// proved program's space, to which the whole input is read.
+/// Every answer of a call, and every refusal that sound tables leave, stands among the stored scripts; and they fit
+/// into the proved program's space, to which the whole input is read.
 #[test]
 fn every_answer_is_there() {
     let files = stored::files().unwrap();

@@ -7,8 +7,8 @@ use second::replay::{Call, Session};
 use second::units::{readings, record};
 use second::{stored, Calibration};
 
-/// An integer multiple of the least double, two to the -1074, in two's complement. Every finite double is one, and so is
-/// every product and sum of such a one and a reading.
+/// An integer multiple of the least double, two to the -1074, in two's complement. Every finite double is one, and so
+/// is every product and sum of such a one and a reading.
 #[derive(Clone, PartialEq)]
 struct Exact([u64; 36]);
 
@@ -83,8 +83,8 @@ impl Exact {
         let half = lost > 0 && magnitude.bit(lost - 1);
         let less = lost > 1 && (0..lost - 1).any(|at| magnitude.bit(at));
         let up = half && (less || significand & 1 == 1);
-        // The pattern of a whole multiple is its number, and each power of two lost adds one to the exponent; so a carry
-        // out of the significand does right by itself.
+        // The pattern of a whole multiple is its number, and each power of two lost adds one to the exponent; so a
+        // carry out of the significand does right by itself.
         let bits = significand + u64::from(up) + ((lost as u64) << 52);
         (bits < 0x7FF << 52).then_some(Rounded {
             bits: u64::from(minus) << 63 | bits,
@@ -195,8 +195,8 @@ fn stored_records() {
     }
 }
 
-/// A read in units makes the accesses of a plain one, and its done gives the plain value in units: two stations over one
-/// text, the other of which reads plainly, go the same way.
+/// A read in units makes the accesses of a plain one, and its done gives the plain value in units: two stations over
+/// one text, the other of which reads plainly, go the same way.
 #[test]
 fn a_calibrated_read_is_the_plain_one_in_units() {
     let mut random = Random::new(11);

@@ -1,4 +1,5 @@
--- `abi::desfanuk_begin_read` meets its contract: the station keeps its promise, and `tell` says in words what it answered.
+-- `abi::desfanuk_begin_read` meets its contract: the station keeps its promise, and `tell` says in words what it
+-- answered.
 use denote.Ref.{now}
 use Rattle.tables.specs.View.{Tables, sound}
 use Rattle.station.specs.declared.Operation.{Operation}

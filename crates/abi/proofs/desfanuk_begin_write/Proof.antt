@@ -1,4 +1,5 @@
--- `abi::desfanuk_begin_write` meets its contract: the station keeps its promise, and `tell` says in words what it answered.
+-- `abi::desfanuk_begin_write` meets its contract: the station keeps its promise, and `tell` says in words what it
+-- answered.
 use denote.Ref.{now}
 use mir.Facts.{toZ-ofZ}
 use Rattle.tables.specs.View.{Tables, sound}

@@ -36,26 +36,17 @@ show-map-requires c κs = search needs
 enum-known-verdict : tie.Need-enum-known-verdict
 enum-known-verdict c = search needs
 
-show-position-requires : tie.Need-show-position-requires
-show-position-requires c κs = search needs
+slice-aggregate-show-refused : tie.Need-slice-aggregate-show-refused
+slice-aggregate-show-refused c = search needs
 
-show-rule-requires : tie.Need-show-rule-requires
-show-rule-requires c κs = search needs
+slice-aggregate-show-refused-2 : tie.Need-slice-aggregate-show-refused-2
+slice-aggregate-show-refused-2 c = search needs
 
-slice-aggregate-show-why : tie.Need-slice-aggregate-show-why
-slice-aggregate-show-why c = search needs
+slice-aggregate-show-refused-3 : tie.Need-slice-aggregate-show-refused-3
+slice-aggregate-show-refused-3 c = search needs
 
-slice-aggregate-show-why-2 : tie.Need-slice-aggregate-show-why-2
-slice-aggregate-show-why-2 c = search needs
-
-slice-aggregate-show-why-3 : tie.Need-slice-aggregate-show-why-3
-slice-aggregate-show-why-3 c = search needs
-
-show-why-requires : tie.Need-show-why-requires
-show-why-requires c κs = search needs
-
-show-source-requires : tie.Need-show-source-requires
-show-source-requires c κs = search needs
+show-refused-requires : tie.Need-show-refused-requires
+show-refused-requires c κs = search needs
 
 returns : tie.Need-returns
 returns c = search needs
@@ -77,12 +68,9 @@ explain-spec =
     slice-aggregate-show-map-3
     show-map-requires
     enum-known-verdict
-    show-position-requires
-    show-rule-requires
-    slice-aggregate-show-why
-    slice-aggregate-show-why-2
-    slice-aggregate-show-why-3
-    show-why-requires
-    show-source-requires
+    slice-aggregate-show-refused
+    slice-aggregate-show-refused-2
+    slice-aggregate-show-refused-3
+    show-refused-requires
     returns
     returns-2)

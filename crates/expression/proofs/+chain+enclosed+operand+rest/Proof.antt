@@ -1,6 +1,6 @@
--- The proof of the cycle of calls {chain, enclosed, operand, rest}. The measure is lexicographic, the depth and then the level: an operand of a depth comes below every
--- chain of that depth, and above whatever a parenthesis of a lesser one encloses. The loop's invariant: the whole chain is what is left to read after what was read.
--- Assumes nothing.
+-- The proof of the cycle of calls {chain, enclosed, operand, rest}. The measure is lexicographic, the depth and then
+-- the level: an operand of a depth comes below every chain of that depth, and above whatever a parenthesis of a lesser
+-- one encloses. The loop's invariant: the whole chain is what is left to read after what was read. Assumes nothing.
 use mathlib.Core.List.{List}
 use Rattle.expression.specs.declared.Worth.{Worth}
 use Rattle.expression.specs.Value.{withinRange}
@@ -249,7 +249,8 @@ rest-returns t c = rw (c .enum-told .given .1)
 rest-loop-holds : (t : ℕ) → rest-lts.Need-loop-holds (rest-claims t) (rest-at t) rest.Post rest-Inv-loop rest-μ-loop
 rest-loop-holds t c = refl
 
--- what is known in a turn once it is known what joins: how the chain goes on, and what the three calls saw of the token at `place`
+-- what is known in a turn once it is known what joins: how the chain goes on, and what the three calls saw of the token
+-- at `place`
 module _ (t : ℕ) (c : rest-lts.After-joint-of (rest-claims t) (rest-at t) rest.Post rest-Inv-loop rest-μ-loop) where
   abbrev at-loop : rest-lts.At-loop (rest-claims t) (rest-at t) rest.Post rest-Inv-loop rest-μ-loop
   at-loop = c .before .before .before

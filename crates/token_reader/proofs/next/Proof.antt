@@ -1,6 +1,8 @@
--- `token_reader::next` meets its contract: a walk of its MIR, by hand. The borrow is opened, `token::scan` is called on the text and the place that the reader holds, the place where it goes on is stored beside the text, and the borrow is closed at the reader moved on. All that the proof knows of `token::scan` is that it meets its contract.
--- A reader is Copy: what it owns is had twice, and of one copy what text owns goes to the callee, beside the token of its lifetime, which comes back.
--- Assumes nothing.
+-- `token_reader::next` meets its contract: a walk of its MIR, by hand. The borrow is opened, `token::scan` is called on
+-- the text and the place that the reader holds, the place where it goes on is stored beside the text, and the borrow is
+-- closed at the reader moved on. All that the proof knows of `token::scan` is that it meets its contract. A reader is
+-- Copy: what it owns is had twice, and of one copy what text owns goes to the callee, beside the token of its lifetime,
+-- which comes back. Assumes nothing.
 use mathlib.Core.Path.{_≡_, refl, ap, subst}
 use Prim.Native.Nat.{ℕ, _<_, _^_}
 use mathlib.Core.List.{List, [], _∷_}
@@ -166,7 +168,8 @@ module _ {M : Type 1} (𝓤 : URA M) (H : Heap 𝓤) (A : Atoms 𝓤) (W : Given
         opens ! tt (B κ′) {h = h} b o (λ vs. spelt ! (B κ′) (Is (B κ′)) (shows 𝓤 H A (B κ′)) (LL.vals D L) (LL.tells D L) fullShare h vs b o $
         use1 W (‵ (fat fullShare (T′.mir erased) b o mach)) (W .laws .raw-at fullShare (T′.mir erased) b o mach) $
         move ! (1 ∷ []) $ peeks ! (B κ′) (Is (B κ′)) (shows 𝓤 H A (B κ′)) h (mach ∷ []) (λ g. move ! (1 ∷ 0 ∷ []) $
-        -- [the struct's cell; what a Reader owns; the open borrow; obs; auth; 'a's token; …; _4; …; _3; …; _2; …; _1; …; room for _0; …]
+        -- [the struct's cell; what a Reader owns; the open borrow; obs; auth; 'a's token; …; _4; …; _3; …; _2; …; _1;
+        -- …; room for _0; …]
         let wt = LL.lawful D L 𝓤 H A W .typed h _ g .0 .1 in
         assigns ! (of-opd ! (load ! (from ! (hop ! (look ! 13 refl) (fld ! refl (stop !)))) (look-in ! 0 (sub ! 0 refl (whole !))))) (from ! (stop !)) (init ! 9 refl (tt, wt .0)) $
         assigns ! (of-opd ! (load ! (from ! (hop ! (look ! 13 refl) (fld ! refl (stop !)))) (look-in ! 0 (sub ! 1 refl (whole !))))) (from ! (stop !)) (init ! 7 refl (tt, wt .1 .0)) $
@@ -175,7 +178,8 @@ module _ {M : Type 1} (𝓤 : URA M) (H : Heap 𝓤) (A : Atoms 𝓤) (W : Given
         calls-at ! fm (ScanAt 𝓤 H A at-mem run) known to (and-then ! (load ! (from ! (stop !)) (look ! 9 refl)) (and-then ! (load ! (from ! (stop !)) (look ! 7 refl)) (no-more !))) (λ u.
         use1 W (later (some (λ (r : Scanned). ((‵ (flft κ′ q′) ⊛ ‵ ftrue) ⊛ ‵ (S.the-row .own r (u ∷ []))) ⊛ raw (ensured 𝓤 H A scan.ended (scan.clauses 𝓤 H A at-mem run) (κ′, tt) (h .text, (h .at, tt)) tt r)))) (id⊢ 𝓤 _) $ await ! tt $ pick ! (λ r.
         split ! $ move ! (1 ∷ []) $ use1 W (raw (fact 𝓤 (r ≡ found h))) (said r) $ heard ! (r ≡ found h) (λ e. split ! $ move ! (1 ∷ []) $
-        -- [the result; the token; what the Reader owns; its cell; the open borrow; obs; auth; …; _4; …; _3; …; room for _2; …; _1; …; room for _0; …]
+        -- [the result; the token; what the Reader owns; its cell; the open borrow; obs; auth; …; _4; …; _3; …; room for
+        -- _2; …; _1; …; room for _0; …]
         peeks ! S.the-row (Is S.the-row) (shows 𝓤 H A S.the-row) r (u ∷ []) (λ is.
         let at-fits = LL.owed S.the-type S′.the-laws r _ is .1 .0 .1 in
         land ! (from ! (stop !)) (init ! 12 refl (LL.lawful S.the-type S′.the-laws 𝓤 H A W .typed r _ is .0)) $ rewrite ! 12 (λ (z : Val). ‵ (fat fullShare S′.mir l₂ 0 z)) (ap only (S′.lowers .val-is r _ is)) refl $

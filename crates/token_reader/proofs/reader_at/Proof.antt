@@ -1,6 +1,6 @@
--- `token_reader::reader_at` meets its contract: a walk of its MIR, by hand. A reader is made of the text and the place, in the result's local.
--- A `&[u8]` is Copy, so what it owns is had twice: once for text at exit, and once inside the result, beside the facts of at.
--- Assumes nothing.
+-- `token_reader::reader_at` meets its contract: a walk of its MIR, by hand. A reader is made of the text and the place,
+-- in the result's local. A `&[u8]` is Copy, so what it owns is had twice: once for text at exit, and once inside the
+-- result, beside the facts of at. Assumes nothing.
 use mathlib.Core.Path.{refl}
 use Prim.Native.Nat.{ℕ, _<_, _^_}
 use mathlib.Core.List.{List, [], _∷_}

@@ -1,6 +1,9 @@
--- `token_reader::scan_at` meets its contract: a walk of its MIR, by hand. The reader that `reader_at` returns is put into a local, the local is lent to `next` for a lifetime within the text's that is made for the call, and comes back moved on; the result is made of the token and the place where the reader then stands. All that the proof knows of `reader_at` and of `next` is that each meets its contract.
--- In a local of a body MIR erases the lifetime of the struct's type, so a reader's machine value is shown to have the type at `erased`: what the struct owns does not say the lifetime's name.
--- Assumes nothing.
+-- `token_reader::scan_at` meets its contract: a walk of its MIR, by hand. The reader that `reader_at` returns is put
+-- into a local, the local is lent to `next` for a lifetime within the text's that is made for the call, and comes back
+-- moved on; the result is made of the token and the place where the reader then stands. All that the proof knows of
+-- `reader_at` and of `next` is that each meets its contract. In a local of a body MIR erases the lifetime of the
+-- struct's type, so a reader's machine value is shown to have the type at `erased`: what the struct owns does not say
+-- the lifetime's name. Assumes nothing.
 use mathlib.Core.Path.{_≡_, refl, ap}
 use Prim.Native.Nat.{ℕ, _<_, _^_}
 use mathlib.Core.List.{List, [], _∷_}
@@ -179,7 +182,8 @@ module _ {M : Type 1} (𝓤 : URA M) (H : Heap 𝓤) (A : Atoms 𝓤) (W : Given
         use1 W (later (some (λ (r : Reader). ((‵ (flft κ q) ⊛ ‵ ftrue) ⊛ ‵ (B κ .own r (w ∷ []))) ⊛ raw (ensured 𝓤 H A reader-at.ended (reader-at.clauses 𝓤 H A at-mem run) (κ, tt) (s, (n, tt)) tt r)))) (id⊢ 𝓤 _) $ await ! tt $ pick ! (λ r.
         split ! $ move ! (1 ∷ []) $ use1 W (raw (fact 𝓤 ((r .text ≡ s) × (r .at ≡ n)))) (reader-at-said r) $ heard ! ((r .text ≡ s) × (r .at ≡ n)) (λ e. split ! $ move ! (1 ∷ []) $
         rewrite ! 0 (λ (z : Reader). ‵ (B κ .own z (w ∷ []))) (λ i. record { text = e .0 i; at = e .1 i }) refl $
-        -- [what the reader owns; the token; what text owns; room for _7; …; _6; …; _5; …; _4; …; _3; …; _2; …; _1; …; _0; …]
+        -- [what the reader owns; the token; what text owns; room for _7; …; _6; …; _5; …; _4; …; _3; …; _2; …; _1; …;
+        -- _0; …]
         peeks ! (B κ) (Is (B κ)) (shows 𝓤 H A (B κ)) d (w ∷ []) (λ is.
         let typed = LL.lawful (T.the-type (α κ)) (T′.the-laws (α κ)) 𝓤 H A W .typed d _ is .0 in
         land ! (from ! (stop !)) (init ! 7 refl typed) $ assigns ! (of-opd ! (load ! (from ! (stop !)) (look ! 7 refl))) (from ! (stop !)) (init ! 11 refl typed) $ assigns ! (addr ! (from ! (stop !))) (from ! (stop !)) (init ! 5 refl (tt, tt)) $
@@ -195,7 +199,8 @@ module _ {M : Type 1} (𝓤 : URA M) (H : Heap 𝓤) (A : Atoms 𝓤) (W : Given
         use1 W (later (some (λ (t : Token). ((‵ (flft (ν ∷ κ) (PosShare·right q)) ⊛ ‵ (flft κ (PosShare·left q)) ⊛ ‵ ftrue) ⊛ ‵ (K.the-row .own t (u ∷ []))) ⊛ raw (ensured 𝓤 H A next.ended (next.clauses 𝓤 H A at-mem run) (ν ∷ κ, (κ, tt)) (lent l₃ δ, tt) tt t)))) (id⊢ 𝓤 _) $ await ! tt $ pick ! (λ t.
         split ! $ move ! (1 ∷ []) $ use1 W (some (λ (ws : Reader × Unit {0}). ‵ (lasts next.ended (ν ∷ κ, (κ, tt)) (lent l₃ δ, tt) ws) ⊛ raw (fact 𝓤 ((t ≡ found d .token) × (ws .0 ≡ d′))))) (id⊢ 𝓤 _) $ pick ! (λ ws.
         split ! $ move ! (1 ∷ []) $ heard ! ((t ≡ found d .token) × (ws .0 ≡ d′)) (λ f. fsplit ! $ move ! (2 ∷ []) $ split ! $ move ! (1 ∷ []) $
-        -- [the token read; the lifetimes' tokens; the reader's last value; …; the lender's part; the way back; …; what text owns; room for _7; …; _6; …; _5; …; room for _4; …; _3's end; _2; …; _1; …; room for _0; …]
+        -- [the token read; the lifetimes' tokens; the reader's last value; …; the lender's part; the way back; …; what
+        -- text owns; room for _7; …; _6; …; _5; …; room for _4; …; _3's end; _2; …; _1; …; room for _0; …]
         peeks ! K.the-row (Is K.the-row) (shows 𝓤 H A K.the-row) t (u ∷ []) (λ ist.
         land ! (from ! (stop !)) (init ! 14 refl (EL.lawful K.the-type K′.the-laws 𝓤 H A W tt .typed t _ ist .0)) $ rewrite ! 14 (λ (z : Val). ‵ (fat fullShare K′.mir l₄ 0 z)) (ap only (EL.tells K.the-type K′.the-laws t _ ist)) refl $ rewrite ! 0 (λ (z : Val). ‵ (K.the-row .own t (z ∷ []))) (ap only (EL.tells K.the-type K′.the-laws t _ ist)) refl $
         -- the lifetime is ended, and the local is taken back with the reader moved on
@@ -207,7 +212,8 @@ module _ {M : Type 1} (𝓤 : URA M) (H : Heap 𝓤) (A : Atoms 𝓤) (W : Given
         assigns ! (of-opd ! (load ! (from ! (fld ! refl (stop !))) (look-in ! 1 (sub ! 1 refl (whole !))))) (from ! (stop !)) (init ! 8 refl (tt, record { fits = at-fits })) $
         -- the result is made of the token and that place
         drop ! $ nothing ! $ owned ! usize (Is usize) (uint-makes 𝓤 H A W w64) (d′ .at) _ (refl, at-fits) $ fjoin ! $ move ! (4 ∷ 0 ∷ []) $ fjoin ! $ use1 W (‵ (S.the-row .own (made t) (LL.val S.the-type S′.the-laws (made t) ∷ []))) (own-shut 𝓤 H A W S.the-type S′.the-laws (t, (d′ .at, tt))) $
-        -- [the result; _3; the token of κ; …; what text owns; _7; …; _6; …; _5; …; _4; …; _3's end; _2; …; _1; …; room for _0; …]
+        -- [the result; _3; the token of κ; …; what text owns; _7; …; _6; …; _5; …; _4; …; _3's end; _2; …; _1; …; room
+        -- for _0; …]
         peeks ! S.the-row (Is S.the-row) (shows 𝓤 H A S.the-row) (made t) (LL.val S.the-type S′.the-laws (made t) ∷ []) (λ isr.
         assigns ! (agg ! (and-then ! (load ! (from ! (stop !)) (look ! 13 refl)) (and-then ! (load ! (from ! (stop !)) (look ! 7 refl)) (no-more !)))) (from ! (stop !)) (init ! 20 refl (LL.lawful S.the-type S′.the-laws 𝓤 H A W .typed (made t) _ isr .0)) $
         returns ! (look ! 20 refl) $ forget ! 1 refl $ forget ! 7 refl $ forget ! 9 refl $ forget ! 11 refl $ forget ! 13 refl $ forget ! 16 refl $ forget ! 18 refl $ forget ! 20 refl $

@@ -6,8 +6,8 @@ use crate::pieces::script::Call;
 
 /// A text of any kind in pieces, and its end call, in a store that is whole again by then.
 ///
-/// Most texts come as they are. Some go on behind their end, to the limit or past it; now and then the store is short at
-/// a call, which is made again once the store is whole, or the text ends before its last pieces.
+/// Most texts come as they are. Some go on behind their end, to the limit or past it; now and then the store is short
+/// at a call, which is made again once the store is whole, or the text ends before its last pieces.
 pub fn pieces(random: &mut Random) -> Vec<Call> {
     let mut bytes = text(random);
     if random.one_in(12) {

@@ -2,8 +2,8 @@
 
 use super::{device, over_r, List, Script};
 
-/// The bus mouse of document 001 with its lost dots restored, in what the grammar takes of it: the index register and the
-/// interrupt register at one write offset.
+/// The bus mouse of document 001 with its lost dots restored, in what the grammar takes of it: the index register and
+/// the interrupt register at one write offset.
 const BUSMOUSE: &str = "device logitech_busmouse (base : bit[8] port @ {0..3})\n{\n  \
     // index register\n  \
     register index_reg = write base @ 2, mask '1..00000' : bit[8];\n  \

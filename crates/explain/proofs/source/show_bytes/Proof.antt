@@ -1,31 +1,25 @@
 -- `explain::source::show_bytes` meets its contract.
 use native.Mathlib.Omega.{arith}
-use lib.ListN.{length}
 use borrow.Author.Needs.{needs}
+use lib.ListN.{length}
 use Prim.Native.Nat.{_≤_, _-_}
 use Rattle.explain.proofs.source.show_bytes.Statement.{statement}
 use Rattle.explain.proofs.source.show_bytes.Tie as tie
 
 abbrev Inv-loop : tie.InvT-loop
-Inv-loop bytes blank k₀ k = k ≤ k
+Inv-loop bytes blank k₀ skip₀ k skip = k ≤ k
 
 abbrev μ-loop : tie.MeasureT-loop
-μ-loop bytes blank k₀ k = length bytes - k
+μ-loop bytes blank k₀ skip₀ k skip = length bytes - k
 
 loop-holds : tie.Need-loop-holds Inv-loop μ-loop
 loop-holds c = omega arith
 
-shared-slice-read-show-blank : tie.Need-shared-slice-read-show-blank Inv-loop μ-loop
-shared-slice-read-show-blank c = search needs
+show-character-requires : tie.Need-show-character-requires Inv-loop μ-loop
+show-character-requires c κs = search needs
 
-show-blank-requires : tie.Need-show-blank-requires Inv-loop μ-loop
-show-blank-requires c κs = search needs
-
-shared-slice-read-show-byte : tie.Need-shared-slice-read-show-byte Inv-loop μ-loop
-shared-slice-read-show-byte c = search needs
-
-show-byte-requires : tie.Need-show-byte-requires Inv-loop μ-loop
-show-byte-requires c κs = search needs
+span-requires : tie.Need-span-requires Inv-loop μ-loop
+span-requires c κs = search needs
 
 add-k : tie.Need-add-k Inv-loop μ-loop
 add-k c = search needs
@@ -46,10 +40,8 @@ show-bytes-spec =
     Inv-loop
     μ-loop
     loop-holds
-    shared-slice-read-show-blank
-    show-blank-requires
-    shared-slice-read-show-byte
-    show-byte-requires
+    show-character-requires
+    span-requires
     add-k
     loop-less
     loop-again

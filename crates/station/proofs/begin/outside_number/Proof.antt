@@ -1,4 +1,5 @@
--- `station::begin::outside_number` meets its contract: the test is made on the bits of the value, from which the machine reads it back.
+-- `station::begin::outside_number` meets its contract: the test is made on the bits of the value, from which the
+-- machine reads it back.
 use mathlib.Core.Path.{_≡_, _∙_, refl, sym, ap}
 use mathlib.Core.Bool.{true, false, true≢false}
 use native.Mathlib.Omega.{arith}

@@ -1,4 +1,5 @@
--- `station::confirmation::confirm` meets its contract: once `fault` has found nothing, each arm has what its functions ask from `Clear` and `Underway`; its answer is a law of `confirmedBy`.
+-- `station::confirmation::confirm` meets its contract: once `fault` has found nothing, each arm has what its functions
+-- ask from `Clear` and `Underway`; its answer is a law of `confirmedBy`.
 use mathlib.Core.Path.{ap}
 use native.Mathlib.Nat.{lt-of-lt-of-le}
 use denote.Ref.{now}

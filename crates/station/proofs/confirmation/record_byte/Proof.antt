@@ -1,4 +1,5 @@
--- `station::confirmation::record_byte` meets its contract: the register is one of the tables, and the record has a byte for each.
+-- `station::confirmation::record_byte` meets its contract: the register is one of the tables, and the record has a byte
+-- for each.
 use Prim.Native.Nat.{ℕ}
 use mathlib.Core.Path.{sym, subst}
 use native.Mathlib.Omega.{arith}

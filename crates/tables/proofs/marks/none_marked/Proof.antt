@@ -1,4 +1,5 @@
--- `tables::marks::none_marked` meets its contract: the loop invariant says that the work that remains gives what the whole work gives.
+-- `tables::marks::none_marked` meets its contract: the loop invariant says that the work that remains gives what the
+-- whole work gives.
 use Rattle.tables.proofs.MarkLaws.{free-turn, free-end}
 use Rattle.tables.specs.Marks.{downFrom, free}
 use mathlib.Core.Bool.{_&&_}

@@ -14,7 +14,8 @@ use Rattle.tables.proofs.DistinctLaws.{maps-says}
 use Rattle.tables.proofs.pieces.part_bits.Statement.{statement}
 use Rattle.tables.proofs.pieces.part_bits.Tie as tie
 
--- `tables::pieces::part_bits` meets its contract: the loop invariant says that flag and count are those of the pieces passed.
+-- `tables::pieces::part_bits` meets its contract: the loop invariant says that flag and count are those of the pieces
+-- passed.
 
 abbrev Inv-loop : tie.InvT-loop
 Inv-loop registers part variables at n ok₀ count₀ k₀ ok count k = (k ≤ n) × (count ≤ 4294967296 * k) × (ok ≡ every k (λ j. pieceFits registers part (pieceIn variables (pieceAt at j)) && not (overlapsEarlier variables at j))) × (count ≡ length (bitsTo (variablePartIn variables at) k))

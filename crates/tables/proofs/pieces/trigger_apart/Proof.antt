@@ -1,4 +1,5 @@
--- `tables::pieces::trigger_apart` meets its contract: the loop invariant says that what is gathered so far is the definition at the counter.
+-- `tables::pieces::trigger_apart` meets its contract: the loop invariant says that what is gathered so far is the
+-- definition at the counter.
 use Prim.Native.Nat.{ℕ, _≤_, _-_, _+_, _*_}
 use Rattle.tables.proofs.MarkLaws.{at-count, free-none, free-more, free-one}
 use Rattle.bits.specs.Widths.{widest}

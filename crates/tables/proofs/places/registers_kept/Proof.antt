@@ -1,4 +1,5 @@
--- `tables::places::registers_kept` meets its contract: the loop invariant says that the slots are those of the registers passed, and what was gathered of these.
+-- `tables::places::registers_kept` meets its contract: the loop invariant says that the slots are those of the
+-- registers passed, and what was gathered of these.
 use borrow.Author.Needs.{needs}
 use native.Mathlib.Omega.{arith}
 use Prim.Native.Nat.{ℕ, _≤_, _-_}

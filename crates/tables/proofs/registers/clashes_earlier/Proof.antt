@@ -1,4 +1,5 @@
--- `tables::registers::clashes_earlier` meets its contract: the loop invariant says that what is gathered so far is the definition at the counter.
+-- `tables::registers::clashes_earlier` meets its contract: the loop invariant says that what is gathered so far is the
+-- definition at the counter.
 use Rattle.tables.proofs.Laws.{some-none, finds, found}
 use Rattle.tables.specs.Every.{some}
 use Rattle.tables.specs.Tables.{registerPartOf}

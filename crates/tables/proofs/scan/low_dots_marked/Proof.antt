@@ -1,4 +1,5 @@
--- `tables::scan::low_dots_marked` meets its contract: the loop invariant says that what is gathered so far is the definition at the counter.
+-- `tables::scan::low_dots_marked` meets its contract: the loop invariant says that what is gathered so far is the
+-- definition at the counter.
 use Rattle.tables.proofs.Laws.{every-none, gathers, gathered}
 use Rattle.bits.specs.Bits.{bit}
 use Rattle.tables.specs.Every.{every}

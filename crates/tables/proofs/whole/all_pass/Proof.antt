@@ -1,4 +1,5 @@
--- `tables::whole::all_pass` meets its contract: the loop invariant says that what is gathered so far is the definition at the counter.
+-- `tables::whole::all_pass` meets its contract: the loop invariant says that what is gathered so far is the definition
+-- at the counter.
 use Rattle.tables.proofs.Laws.{every-none, gathers, gathered}
 use Rattle.tables.specs.Every.{every}
 use Rattle.tables.specs.Scan.{passesTest}

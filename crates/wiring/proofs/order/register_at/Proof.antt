@@ -1,4 +1,5 @@
--- `wiring::order::register_at` meets its contract: the pieces passed have named `seen` registers, the one asked for not among them; later pieces only add at the end.
+-- `wiring::order::register_at` meets its contract: the pieces passed have named `seen` registers, the one asked for not
+-- among them; later pieces only add at the end.
 use Prim.Native.Nat.{ℕ, _+_, _-_, _≤_}
 use mathlib.Core.Path.{_≡_, _∙_, refl, sym, ap}
 use mathlib.Core.Logic.{⊎-elim}

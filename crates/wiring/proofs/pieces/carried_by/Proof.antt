@@ -1,4 +1,5 @@
--- `wiring::pieces::carried_by` meets its contract: the invariant says that the pieces not yet seen decide; each turn is one law of `carriedBelow`.
+-- `wiring::pieces::carried_by` meets its contract: the invariant says that the pieces not yet seen decide; each turn is
+-- one law of `carriedBelow`.
 use Prim.Native.Nat.{_+_, _*_, _≤_}
 use mathlib.Core.Path.{_≡_, _∙_, refl, sym}
 use native.Mathlib.Omega.{arith}
