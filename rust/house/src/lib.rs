@@ -3,8 +3,8 @@
 
 pub mod documents;
 pub mod examples;
-pub mod manual;
 pub mod functions;
+pub mod manual;
 pub mod proofs;
 pub mod prose;
 pub mod shape;

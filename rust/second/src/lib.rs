@@ -20,8 +20,8 @@ mod token;
 pub mod units;
 
 pub use description::{
-    all_bits, Bits, Description, Kind, Mask, Name, OffsetRange, Parameter, Part, Piece, Port, Register,
-    Variable, PARTS, WIDTHS,
+    all_bits, Bits, Description, Kind, Mask, Name, OffsetRange, Parameter, Part, Piece, Port,
+    Register, Variable, PARTS, WIDTHS,
 };
 pub use load::{load, outline, Counts, Outline, Refusal, Verdict, TEXT_BYTES};
 pub use pieces::{Pieces, Taken};
