@@ -6,6 +6,8 @@
 //   operation  four words: the operation in hand
 //   answer     five words: the call's answer
 // Nothing is written past a slice's end. The number returned is the refusal's, and 0 where there is none.
+#![tactic(auto)]
+
 ghost use Rattle.std.specs.Prelude.{◌≡◌, cond};
 ghost use Rattle.tables.specs.View.{sound};
 ghost use Rattle.station.specs.Standing.{tables_of};

@@ -2,6 +2,8 @@
 // and a newline behind it, `end`, `lend short` for a store that is a byte too short, and `lend all`. The input is one
 // script, or framed ones, each of which begins afresh. rust/second/README.md says what a line may be. Of an input
 // longer than the buffer no more is read.
+#![tactic(auto)]
+
 ghost use Rattle.std.specs.Prelude.{◌≤◌};
 
 use frames::Frame;
@@ -9,7 +11,7 @@ use loader::Verdict;
 use pieces::Reply;
 
 // What stands between two calls, beside the store.
-#[derive(Drop)]
+#[derive(Clone, Copy)]
 struct Arriving {
     taken: usize,
     short: bool,

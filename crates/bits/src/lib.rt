@@ -1,4 +1,6 @@
 // Numbers as bits, for any width that a usize has room for. Bit 0 is the least significant.
+#![tactic(auto)]
+
 ghost use Rattle.std.specs.Prelude.{◌≡◌, ◌+◌, ◌*◌, ◌≤◌, ◌<◌, ◌^◌};
 ghost use Rattle.bits.specs.Bits.{bit, digit};
 ghost use Rattle.bits.specs.Widths.{is_width, widest};

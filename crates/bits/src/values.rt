@@ -5,7 +5,7 @@ ghost use Rattle.bits.specs.Widths.{widest};
 
 use crate::power;
 
-#[derive(Drop)]
+#[derive(Clone, Copy)]
 pub enum Encoded {
     Pattern(usize),
     Outside,

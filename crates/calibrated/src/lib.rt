@@ -1,6 +1,8 @@
 // Reading a variable in units: the station's begin and confirmation, with a calibration. The operation in hand is an
 // ordinary read; the calibration is lent at the begin, and again at each confirmation. To abandon such a read is the
 // station's call.
+#![tactic(auto)]
+
 ghost use Rattle.std.specs.Prelude.{◌≡◌};
 ghost use Rattle.tables.specs.View.{sound};
 ghost use Rattle.station.specs.Standing.{tables_of};
@@ -12,14 +14,14 @@ use tables::words::word;
 use units::Calibration;
 
 // Done gives the reading in units, or is refused and over all the same; every other answer is the station's.
-#[derive(Drop)]
+#[derive(Clone, Copy)]
 pub enum InUnits {
     Reading { value: f64, accesses: usize },
     Stopped(usize),
     Same(Answer),
 }
 
-#[derive(Drop)]
+#[derive(Clone, Copy)]
 pub struct OutcomeInUnits {
     pub operation: Operation,
     pub answer: InUnits,

@@ -1,5 +1,7 @@
 // The verdict on each framed text on standard input, a line each. The stored cases and what they must say come from the
 // second implementation.
+#![tactic(auto)]
+
 use frames::Frame;
 
 fn tell(text: &[u8]) {

@@ -126,7 +126,7 @@ pub fn pulls_trigger(variables: &[u32], part: Part, v: u32) -> bool
 }
 
 // What two variables may not share in a part: a bit (rule 14); a register, where one of the two is trigger (rule 15).
-#[derive(Drop)]
+#[derive(Clone, Copy)]
 pub enum Shared {
     Bit,
     Register,

@@ -16,7 +16,7 @@ use tables::registers::clashes;
 use tables::{Part, Piece};
 
 // What is looked for, in the table whose entries the test speaks of.
-#[derive(Drop)]
+#[derive(Clone, Copy)]
 pub enum Test {
     // A range of this parameter that goes down or past 255 (rule 8).
     Misfit(u32),

@@ -16,7 +16,7 @@ const SEMICOLON: u16 = 315;
 const DECLARATIONS: u32 = 192;
 
 // A rule that is broken, 0 for none, and where.
-#[derive(Drop)]
+#[derive(Clone, Copy)]
 pub struct Next {
     pub rule: u32,
     pub place: usize,

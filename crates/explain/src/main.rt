@@ -1,6 +1,8 @@
 // A description, explained to the person who writes it. A refused one: where, which rule in plain words, what breaks
 // it, the line with a caret, and where the manual has more. An accepted one: a map of its registers and variables. It
 // reads as many bytes as tell a description that is too long.
+#![tactic(auto)]
+
 mod fault;
 mod further;
 mod rule;

@@ -6,7 +6,7 @@ const SEMICOLON: u16 = 315;
 
 // What is looked for: a token of this kind behind one of that kind, 0 standing for any; or a mask that has another
 // number of elements.
-#[derive(Drop)]
+#[derive(Clone, Copy)]
 pub enum Sought {
     Kind(u16, u16),
     Mask(usize),

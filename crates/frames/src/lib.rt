@@ -1,12 +1,14 @@
 // Bytes of any kind in an input: a line with a word and a number, as `text N`, then N bytes, then a newline, which the
 // last may go without. Several texts are in one input that way.
+#![tactic(auto)]
+
 ghost use Rattle.std.specs.Prelude.{◌≡◌, length};
 ghost use Rattle.frames.specs.Frames.{headed, ends_at, enclosed, framed, headed_at, frame_at};
 
 use script::Number;
 
 // Bytes from `start` to `end`, and where the next frame may begin.
-#[derive(Drop)]
+#[derive(Clone, Copy)]
 pub enum Frame {
     Text {
         start: usize,

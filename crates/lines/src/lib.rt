@@ -1,4 +1,6 @@
 // The line that the verdict program writes on a text, as bytes in a lent buffer.
+#![tactic(auto)]
+
 pub mod put;
 
 ghost use Rattle.std.specs.Prelude.{◌≡◌, length};

@@ -15,7 +15,7 @@ const COMMA: u16 = 300;
 
 // How far loading has come: how much the text declares so far, what was made of it but for the tables, and the step
 // past it.
-#[derive(Drop)]
+#[derive(Clone, Copy)]
 pub struct Loading {
     pub parameters: usize,
     pub registers: usize,

@@ -11,7 +11,7 @@ use tables::marks::mark;
 use tables::words::word;
 
 // A name that is declared, as it stands in the text, and where it has its mark.
-#[derive(Drop)]
+#[derive(Clone, Copy)]
 pub struct Declared {
     pub place: usize,
     pub extent: usize,

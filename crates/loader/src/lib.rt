@@ -1,5 +1,7 @@
 // Loading a description: a text is read and judged in one pass, and what every answer leaves in the lent tables is said
 // for each.
+#![tactic(auto)]
+
 pub mod declarations;
 pub mod heading;
 pub mod known;

@@ -16,7 +16,7 @@ use tables::words::word;
 const END: u16 = 255;
 
 // What loading answers: the counts of parameters, registers and variables; or the number of a refusal and its place.
-#[derive(Drop)]
+#[derive(Clone, Copy)]
 pub enum Verdict {
     Accepted(u32, u32, u32),
     Refused(u32, usize),

@@ -1,1 +1,2 @@
 // Laws of tests that every crate cites: all of it stands in proofs/.
+#![tactic(auto)]

@@ -6,7 +6,7 @@ use tables::Part;
 use wording::parts::{port_of, show_bracket, show_place, top_bit};
 use wording::write::{span, write};
 
-#[derive(Drop)]
+#[derive(Clone, Copy)]
 pub enum Shown {
     Bits,
     Access,

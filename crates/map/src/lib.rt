@@ -1,4 +1,6 @@
 // The map of an accepted description: its parameters, a row for each eight bits of a register, and its variables.
+#![tactic(auto)]
+
 mod each;
 mod row;
 mod summary;

@@ -1,6 +1,8 @@
 // A description that arrives in pieces: a call that takes a piece, and a call that ends the text and loads it.
 // Between the calls the caller keeps the lent store and one number: how many bytes of it are taken. Any number above
 // the limit says that the text was too long, so every number that a caller lends has a meaning.
+#![tactic(auto)]
+
 ghost use Rattle.std.specs.Prelude.{◌≡◌, ◌+◌, ◌≤◌, ltb, length};
 ghost use Rattle.loader.specs.Load.{lent_as};
 ghost use Rattle.pieces.specs.Pieces.{is_short_for, laid_at, held_as, took_as, ended_as, piece_of, end_of};
@@ -8,21 +10,21 @@ ghost use Rattle.pieces.specs.Pieces.{is_short_for, laid_at, held_as, took_as, e
 use loader::Verdict;
 
 // Before the end call: more, or the number of a refusal and its place, which is 0.
-#[derive(Drop)]
+#[derive(Clone, Copy)]
 pub enum Reply {
     More,
     Refused(u32, usize),
 }
 
 // The reply to a piece, and how many bytes of the store are then taken.
-#[derive(Drop)]
+#[derive(Clone, Copy)]
 pub struct Taken {
     pub reply: Reply,
     pub taken: usize,
 }
 
 // The verdict on all pieces, and how many bytes of the store are then taken: none, where the text was judged.
-#[derive(Drop)]
+#[derive(Clone, Copy)]
 pub struct Ended {
     pub verdict: Verdict,
     pub taken: usize,

@@ -1,6 +1,8 @@
 // Readings in units from standard input: whole records of 20 bytes, low byte first (gain and offset, a double each, and
 // a reading of 32 bits without a sign). For each it writes the result's 16 hexadecimal digits, or the refusal. Bytes
 // behind the last whole record are passed over.
+#![tactic(auto)]
+
 ghost use Rattle.std.specs.Prelude.{◌≡◌, ◌≤◌, ◌+◌, ◌<◌, ◌^◌, length, get_or};
 ghost use Rattle.readings.specs.Records.{four_at, eight_at, line_at};
 

@@ -9,7 +9,7 @@ use station::Operation;
 use units::{Calibration, calibration_of};
 
 // A call of the station. An opening has so many power-on numbers.
-#[derive(Drop)]
+#[derive(Clone, Copy)]
 pub enum Request {
     Open(usize),
     Read(usize),
@@ -20,7 +20,7 @@ pub enum Request {
     Calibrated(usize, Calibration),
 }
 
-#[derive(Drop)]
+#[derive(Clone, Copy)]
 pub enum Call {
     // A blank line or a comment.
     Nothing,

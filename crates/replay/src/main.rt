@@ -1,6 +1,8 @@
 // Replays scripts from standard input, each a text and then calls over it, a line each: it writes the text's verdict
 // and what each call answers. rust/second/README.md says what a line may be. Of an input longer than the buffer no more
 // is read.
+#![tactic(auto)]
+
 mod call;
 mod fields;
 mod session;

@@ -24,7 +24,7 @@ use tables::words::word;
 use units::Calibration;
 
 // How a read in hand is confirmed: in units, with the calibration that it began with, or not.
-#[derive(Drop)]
+#[derive(Clone, Copy)]
 pub enum Scale {
     Raw,
     Units(Calibration),
@@ -32,7 +32,7 @@ pub enum Scale {
 
 // Whether an opening has succeeded, how many bytes of the record and how many marks are lent at most, and the operation
 // in hand with its scale.
-#[derive(Drop)]
+#[derive(Clone, Copy)]
 pub struct Session {
     pub opened: bool,
     pub bytes: usize,
@@ -42,7 +42,7 @@ pub struct Session {
 }
 
 // What a line is answered with. For `Stand`, the record, the marks and the operation are told.
-#[derive(Drop)]
+#[derive(Clone, Copy)]
 pub enum Reply {
     Silence,
     Answered(InUnits),
@@ -53,7 +53,7 @@ pub enum Reply {
     Unknown,
 }
 
-#[derive(Drop)]
+#[derive(Clone, Copy)]
 pub struct Turn {
     pub session: Session,
     pub reply: Reply,
@@ -189,7 +189,7 @@ fn outcome_of(
 }
 
 // A confirmation in units, or any other request.
-#[derive(Drop)]
+#[derive(Clone, Copy)]
 enum Confirmed {
     Byte(u32, Calibration),
     Other,

@@ -7,7 +7,7 @@ use crate::fault::Fault;
 use crate::{fault, names};
 
 // The device's name, and the first rule broken, if one is: the state of the judging but for the tables.
-#[derive(Drop)]
+#[derive(Clone, Copy)]
 pub struct Judging {
     pub place: usize,
     pub extent: usize,

@@ -4,7 +4,7 @@ ghost use Rattle.rules.specs.Fault.{no_fault, fault_if, or_else, is_fault};
 ghost use Rattle.rules.specs.Fault.{only as counts_only};
 
 // The number of the rule, 0 where none is broken, and the place that is named with it.
-#[derive(Drop)]
+#[derive(Clone, Copy)]
 pub struct Fault {
     pub number: u32,
     pub place: usize,

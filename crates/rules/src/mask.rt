@@ -6,7 +6,7 @@ ghost use Rattle.rules.specs.Mask.{is_element, bits_held, elements, mask_of, all
 use crate::names;
 
 // What an element of a mask may be: a dot, `0` or `1`, or `1`.
-#[derive(Drop)]
+#[derive(Clone, Copy)]
 pub enum Element {
     Dot,
     Fixed,
@@ -14,7 +14,7 @@ pub enum Element {
 }
 
 // A mask as the tables hold it.
-#[derive(Drop)]
+#[derive(Clone, Copy)]
 pub struct Mask {
     pub dots: u32,
     pub fixed: u32,

@@ -7,7 +7,7 @@ use crate::words::least;
 use tables::words::word;
 
 // The index of an entry, or none.
-#[derive(Drop)]
+#[derive(Clone, Copy)]
 pub enum Found {
     At(usize),
     Nothing,

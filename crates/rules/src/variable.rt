@@ -119,7 +119,7 @@ pub fn late_number(
 
 // What breaks before there is an entry; the list that gives each part, and the pieces of both lists as the tables hold
 // them.
-#[derive(Drop)]
+#[derive(Clone, Copy)]
 pub struct Early {
     pub fault: Fault,
     pub read: usize,

@@ -1,4 +1,6 @@
 // The lines of a script, their words, and the numbers among these. What each answer must be stands in specs/.
+#![tactic(auto)]
+
 mod numbers;
 mod patterns;
 mod words;

@@ -4,7 +4,7 @@ ghost use Rattle.token.specs.Bytes.{run_at, same};
 ghost use Rattle.script.specs.Words.{is_blank, test_of, line_end, word_of, rest_of};
 
 // What a run of bytes is made of.
-#[derive(Drop)]
+#[derive(Clone, Copy)]
 pub enum Run {
     Blanks,
     Word,

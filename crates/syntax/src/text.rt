@@ -25,7 +25,7 @@ const CLOSE_BRACE: u16 = 381;
 const END: u16 = 255;
 
 // How much a text declares, and the step past it.
-#[derive(Drop)]
+#[derive(Clone, Copy)]
 pub struct Outline {
     pub parameters: usize,
     pub registers: usize,

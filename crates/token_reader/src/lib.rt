@@ -2,13 +2,15 @@
 // `token::scan`'s. The borrow checker covers no function that takes, makes or holds a record with a reference in it, so
 // each is proved by hand;
 // `scan_at` has plain parameters, and whoever reads tokens through it needs no such proof.
+#![tactic(auto)]
+
 ghost use Rattle.std.specs.Prelude.{◌≡◌};
 ghost use Rattle.token.specs.Scan.{scan_at};
 ghost use Rattle.token_reader.specs.Read.{found, moved_on};
 
 use token::{Scanned, Token};
 
-#[derive(Drop)]
+#[derive(Clone, Copy)]
 pub struct Reader<'a> {
     pub text: &'a [u8],
     pub at: usize,

@@ -1,6 +1,8 @@
 // For each framed text on standard input, a line with its tokens up to the end or a bad one, and a line that says
 // whether it reads, with the counts of parameters, registers and variables, or which refusal stops the reading, and
 // where.
+#![tactic(auto)]
+
 use frames::Frame;
 use syntax::Step;
 use token::Token;

@@ -1,4 +1,6 @@
 // Readings in units: the reading, taken exactly, times the gain, rounded once, plus the offset, rounded once.
+#![tactic(auto)]
+
 ghost use Rattle.std.specs.Prelude.{◌≡◌};
 ghost use Rattle.units.specs.Units.{is_finite, is_usable, converted};
 
@@ -6,13 +8,13 @@ mod patterns;
 
 pub use patterns::{Line, bits_of, calibration_of, line_of};
 
-#[derive(Drop)]
+#[derive(Clone, Copy)]
 pub struct Calibration {
     pub gain: f64,
     pub offset: f64,
 }
 
-#[derive(Drop)]
+#[derive(Clone, Copy)]
 pub enum Answer {
     Value(f64),
     Refused(usize),

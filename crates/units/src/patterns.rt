@@ -44,7 +44,7 @@ pub fn bits_of(x: f64) -> u64
 }
 
 // What one record of the program's input comes to: the result's 64 bits, or the refusal.
-#[derive(Drop)]
+#[derive(Clone, Copy)]
 pub enum Line {
     Bits(u64),
     Refusal(usize),

@@ -1,4 +1,6 @@
 // What breaks the rule by which a description is refused, by names and numbers.
+#![tactic(auto)]
+
 mod attributes;
 mod bare;
 mod expected;

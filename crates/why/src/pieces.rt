@@ -58,7 +58,7 @@ fn show_inside(text: &[u8], registers: &[u32], part: Part, piece: Piece) {
 }
 
 // What is wrong with a piece by itself.
-#[derive(Drop)]
+#[derive(Clone, Copy)]
 pub enum Shape {
     Past,
     Rising,

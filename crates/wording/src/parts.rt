@@ -8,7 +8,7 @@ use rules::words::narrow;
 use tables::Part;
 
 // The three tables of entries.
-#[derive(Drop)]
+#[derive(Clone, Copy)]
 pub enum Entry {
     Parameter,
     Register,
