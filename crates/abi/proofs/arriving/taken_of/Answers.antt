@@ -1,0 +1,9 @@
+use Rattle.abi.proofs.ArrivingLaws.{taken_none, taken-some}
+use borrow.Author.Rules.{rules}
+use Rattle.abi.proofs.arriving.taken_of.Goals as goal
+
+pub returns-then-words-lt1 : goal.returns-then-words-lt1
+returns-then-words-lt1 c = taken_none _ c.if-words-lt1.true
+
+pub returns : goal.returns
+returns c = taken-some _ c.if-words-lt1.false

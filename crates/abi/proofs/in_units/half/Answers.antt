@@ -1,0 +1,7 @@
+use native.Mathlib.Omega.{arith}
+use Rattle.bits.proofs.Signed.{natural-read}
+use borrow.Author.Rules.{rules}
+use Rattle.abi.proofs.in_units.half.Goals as goal
+
+pub returns : goal.returns
+returns c = natural-read c.args.bits (omega (arith, c.requires))

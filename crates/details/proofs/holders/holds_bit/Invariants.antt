@@ -1,0 +1,17 @@
+-- `details::holders::holds_bit` meets its contract.
+use borrow.Author.Rules.{rules}
+use Prim.Native.Nat.{ℕ, ◌+◌, ◌-◌, ◌≤◌}
+use native.Mathlib.Omega.{arith}
+use mathlib.Core.Path.{◌≡◌, ap, ◌∙◌}
+use lib.ListN.{get_or}
+use Rattle.tables.specs.Marks.{has}
+use Rattle.tables.specs.Tables.{bits_to, variable_part_in}
+use Rattle.tables.proofs.MarkLaws.{at_count}
+use Rattle.details.proofs.HolderLaws.{joined-start, has_more}
+use Rattle.details.proofs.holders.holds_bit.Given as goal
+
+abbrev pub invariant-loop-k : goal.invariant-loop-k
+invariant-loop-k l = (l.k ≤ l.n) × (l.found ≡ has l.number (bits_to (variable_part_in l.variables l.at) l.k))
+
+abbrev pub decreases-loop-k : goal.decreases-loop-k
+decreases-loop-k l = l.n - l.k

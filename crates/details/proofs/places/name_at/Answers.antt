@@ -1,0 +1,11 @@
+-- `details::places::name_at` meets its contract.
+use mathlib.Core.Path.{ap, ap₂, ◌∙◌}
+use Rattle.rules.specs.Names.{name_of}
+use Rattle.token.specs.declared.Scanned.{Scanned}
+use Rattle.token.specs.Fair.{place_of}
+use Rattle.details.specs.Places.{extent_of}
+use borrow.Author.Rules.{rules}
+use Rattle.details.proofs.places.name_at.Goals as goal
+
+pub returns : goal.returns
+returns c = c.name_of.ensures ∙ ap₂ (name_of c.args.text.now) (c.place_of.ensures ∙ ap (λ (s : Scanned). place_of s.token) c.scan_at-found.ensures) (c.extent_of.ensures ∙ ap (λ (s : Scanned). extent_of s.token) c.scan_at-found.ensures)

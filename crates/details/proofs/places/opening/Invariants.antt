@@ -1,0 +1,12 @@
+-- `details::places::opening` meets its contract.
+use borrow.Author.Rules.{rules}
+use mathlib.Core.Path.{◌≡◌, refl, sym, ◌∙◌}
+use Rattle.details.specs.Places.{opening_from, opening_of}
+use Rattle.details.proofs.PlaceLaws.{opening-here, opening_on, opening-none}
+use Rattle.details.proofs.places.opening.Given as goal
+
+abbrev pub invariant-loop-room : goal.invariant-loop-room
+invariant-loop-room l = opening_of l.text l.place ≡ opening_from l.text l.place l.room l.at l.best
+
+abbrev pub decreases-loop-room : goal.decreases-loop-room
+decreases-loop-room l = l.room

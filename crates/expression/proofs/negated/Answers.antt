@@ -1,0 +1,6 @@
+-- `expression::negated` meets its contract. Assumes nothing.
+use borrow.Author.Rules.{rules}
+use Rattle.expression.proofs.negated.Goals as goal
+
+pub returns : goal.returns
+returns c = rw (c.in-Read.is, c.applied.ensures)

@@ -1,0 +1,13 @@
+-- `lines::put::put_bytes` meets its contract.
+use Prim.Native.Nat.{◌-◌}
+use native.Mathlib.Omega.{arith}
+use borrow.Author.Rules.{rules}
+use lib.ListN.{length}
+use Rattle.lines.proofs.LineLaws.{Putting, putting-none, putting-more, putting-all}
+use Rattle.lines.proofs.put.put_bytes.Given as goal
+
+abbrev pub invariant-loop-k : goal.invariant-loop-k
+invariant-loop-k l = Putting l.initial.out l.at l.what l.out l.k
+
+abbrev pub decreases-loop-k : goal.decreases-loop-k
+decreases-loop-k l = length l.what - l.k

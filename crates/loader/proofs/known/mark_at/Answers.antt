@@ -1,0 +1,8 @@
+-- `loader::known::mark_at` meets its contract.
+use mathlib.Core.Path.{◌∙◌, ap}
+use Rattle.loader.specs.Known.{mark_of}
+use borrow.Author.Rules.{rules}
+use Rattle.loader.proofs.known.mark_at.Goals as goal
+
+pub returns : goal.returns
+returns c = c.mark_of.ensures ∙ ap mark_of c.name_of.ensures

@@ -1,0 +1,16 @@
+use native.Mathlib.Omega.{arith}
+use mathlib.Core.Path.{◌∙◌}
+use Rattle.readings.specs.Records.{four_at}
+use borrow.Author.Rules.{rules}
+use Rattle.readings.proofs.four.Reads as reads
+use Rattle.readings.proofs.four.Lts as lts
+use Rattle.readings.proofs.byte.Reads as byte-Reads
+use Rattle.readings.proofs.four.Goals as goal
+
+-- src/main.rt:50:1
+pub returns : goal.returns
+unfolding four_at
+returns c = record {
+    is = rw (c.byte-a.ensures.is, c.byte-b.ensures.is, c.byte-c.ensures.is, c.byte-d.ensures.is);
+    small = omega (arith, c.byte-a.ensures.small, c.byte-b.ensures.small, c.byte-c.ensures.small, c.byte-d.ensures.small)
+    }

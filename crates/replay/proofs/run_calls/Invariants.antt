@@ -1,0 +1,14 @@
+-- `replay::run_calls` ends.
+use native.Mathlib.Omega.{arith}
+use borrow.Author.Rules.{rules}
+use mathlib.Core.Path.{◌≡◌, refl}
+use Prim.Native.Nat.{◌≤◌, ◌<◌, ◌+◌, ◌-◌, ◌^◌}
+use lib.ListN.{length}
+use Rattle.script.proofs.WordLaws.{line-within}
+use Rattle.replay.proofs.run_calls.Given as goal
+
+abbrev pub invariant-loop-at : goal.invariant-loop-at
+invariant-loop-at l = (l.from ≤ l.at) × (length l.kept ≡ length l.initial.kept) × (length l.marks ≡ length l.initial.marks)
+
+abbrev pub decreases-loop-at : goal.decreases-loop-at
+decreases-loop-at l = length l.input - l.at

@@ -1,0 +1,8 @@
+-- `rules::mask::mask_of` meets its contract.
+use Rattle.rules.specs.Mask.{mask_of}
+use borrow.Author.Rules.{rules}
+use Rattle.rules.proofs.mask.mask_of.Goals as goal
+
+pub returns : goal.returns
+unfolding mask_of
+returns c = rw (c.elements_of.ensures, c.elements_of-2.ensures, c.elements_of-3.ensures)

@@ -1,0 +1,16 @@
+-- `rules::names::find` meets its contract.
+use Prim.Native.Nat.{◌≤◌, ◌*◌, ◌+◌, ◌-◌}
+use native.Mathlib.Omega.{arith}
+use borrow.Author.Rules.{rules}
+use mathlib.Core.Path.{◌≡◌, sym, ◌∙◌}
+use Rattle.tables.specs.Every.{first_of}
+use Rattle.tables.proofs.Laws.{first-none, first_more}
+use Rattle.rules.specs.Names.{is_named}
+use Rattle.rules.proofs.NameLaws.{found_here, found_none, strides}
+use Rattle.rules.proofs.names.find.Given as goal
+
+abbrev pub invariant-loop-i : goal.invariant-loop-i
+invariant-loop-i l = (l.i ≤ l.n) × (first_of l.i (λ j. is_named l.text l.table (l.stride * j + 1) l.name) ≡ l.i)
+
+abbrev pub decreases-loop-i : goal.decreases-loop-i
+decreases-loop-i l = l.n - l.i

@@ -1,0 +1,38 @@
+use native.Mathlib.Omega.{arith}
+use Rattle.rules.proofs.VariableLaws.{mapped-entry, judged-at, mapped_at}
+use borrow.Author.Rules.{rules}
+use Rattle.rules.proofs.variable.enter.Goals as goal
+
+pub store_variable-requires : goal.store_variable-requires
+store_variable-requires c = record {
+    variables_bound = search rules;
+    first_len_bound = omega (arith, slice-aggregate-store-variable (goal.at.store_variable-requires c).After-firsts-2-1);
+    second_len_bound = omega (arith, slice-aggregate-store-variable-2 (goal.at.store_variable-requires c).After-seconds-2-1)
+    }
+
+pub late_number-number-requires : goal.late_number-number-requires
+late_number-number-requires c =
+    let p = c.requires.1.1 in
+    record {
+    v_bound = search rules;
+    registers_bound = search rules;
+    mapped = mapped-entry _ _ _ _ _ _ p.0 p.1 c.store_variable.ensures c.word-v.ensures.is
+    }
+
+pub returns-then-number-eq0 : goal.returns-then-number-eq0
+returns-then-number-eq0 c =
+    let p = c.requires in
+    let stored = c.store_variable.ensures in
+    let count = c.word-v.ensures.is in
+    record {
+    stored = stored;
+    judged = judged-at _ _ _ c.late_number-number.ensures count;
+    mapped = λ e. mapped_at _ _ _ p.registers_bound c.late_number-number.ensures e count (mapped-entry _ _ _ _ _ _ p.variables_value p.mapped_2 stored count) c.enter_variable.ensures.read c.enter_variable.ensures.write
+    }
+
+pub returns-else-number-eq0 : goal.returns-else-number-eq0
+returns-else-number-eq0 c = record {
+    stored = c.store_variable.ensures;
+    judged = judged-at _ _ _ c.late_number-number.ensures c.word-v.ensures.is;
+    mapped = λ e. absurd (c.if-number-eq0.false e)
+    }

@@ -1,0 +1,15 @@
+-- `rules::words::store` meets its contract.
+use Prim.Native.Nat.{◌≤◌, ◌+◌, ◌-◌}
+use native.Mathlib.Omega.{arith}
+use borrow.Author.Rules.{rules}
+use mathlib.Core.Path.{◌≡◌, refl, sym, ◌∙◌}
+use lib.ListN.{length, drop}
+use Rattle.rules.specs.Words.{written}
+use Rattle.rules.proofs.WordLaws.{written-turn, written-end, written_start}
+use Rattle.rules.proofs.words.store.Given as goal
+
+abbrev pub invariant-loop-k : goal.invariant-loop-k
+invariant-loop-k l = (l.k ≤ length l.words) × (length l.table ≡ length l.initial.table) × (written l.initial.table l.at l.words ≡ written l.table (l.at + l.k) (drop l.k l.words))
+
+abbrev pub decreases-loop-k : goal.decreases-loop-k
+decreases-loop-k l = length l.words - l.k

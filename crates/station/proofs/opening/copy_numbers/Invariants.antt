@@ -1,0 +1,16 @@
+-- `station::opening::copy_numbers` meets its contract.
+use Prim.Native.Nat.{◌-◌, ◌≤◌, ◌^◌}
+use native.Mathlib.Nat.{mod-le, lt_of_le_of_lt}
+use mathlib.Core.Path.{◌≡◌, sym, refl, ◌∙◌}
+use native.Mathlib.Omega.{arith}
+use lib.ListN.{length, length-set}
+use Rattle.station.specs.Station.{stored, power_of}
+use Rattle.station.proofs.CallLaws.{stored-turn, stored-none}
+use borrow.Author.Rules.{rules}
+use Rattle.station.proofs.opening.copy_numbers.Given as goal
+
+abbrev pub invariant-loop-i : goal.invariant-loop-i
+invariant-loop-i l = (l.i ≤ l.n) × (length l.target ≡ length l.initial.target) × (l.target ≡ stored (power_of l.registers l.power) l.initial.target l.i)
+
+abbrev pub decreases-loop-i : goal.decreases-loop-i
+decreases-loop-i l = l.n - l.i

@@ -1,0 +1,6 @@
+-- `station::variable::has_part` meets its contract.
+use borrow.Author.Rules.{rules}
+use Rattle.station.proofs.variable.has_part.Goals as goal
+
+pub returns : goal.returns
+returns c = simp c.word.ensures.is

@@ -1,0 +1,7 @@
+use Rattle.syntax.specs.Attribute.{int_after}
+use borrow.Author.Rules.{rules}
+use Rattle.syntax.proofs.attribute.int_after.Goals as goal
+
+pub returns : goal.returns
+unfolding int_after
+returns c = rw c.enclosed_after-number.ensures

@@ -1,0 +1,37 @@
+use native.Mathlib.Omega.{arith}
+use mathlib.Core.Path.{◌≡◌, refl, ◌∙◌}
+use lib.ListN.{length}
+use borrow.Author.Rules.{rules}
+use Rattle.syntax.specs.Piece.{more_pieces}
+use Rattle.syntax.proofs.ItemSteps.{items-full, items-end, items-on}
+use Rattle.syntax.proofs.piece.more_pieces.Goals as goal
+
+pub loop-room-init : goal.loop-room-init
+loop-room-init c = (refl, refl)
+
+pub shape_of-table-then-seen-ne-HASH : goal.shape_of-table-then-seen-ne-HASH
+shape_of-table-then-seen-ne-HASH c = c.loop-room.invariant.0
+
+pub returns-then-seen-ne-HASH : goal.returns-then-seen-ne-HASH
+unfolding more_pieces
+returns-then-seen-ne-HASH c = items-end _ _ _ _ _ _ _ c.loop-room.invariant.1 c.look-seen.ensures c.if-seen-ne-HASH.true
+
+pub overflow_sub-room : goal.overflow_sub-room
+overflow_sub-room c = omega (arith, c.loop-room-test.true)
+
+pub loop-room-smaller : goal.loop-room-smaller
+loop-room-smaller c = omega (arith, c.loop-room-test.true)
+
+pub loop-room-preserved : goal.loop-room-preserved
+unfolding more_pieces
+loop-room-preserved c = (
+  c.piece_after-one.auto.1.1.1.0 ∙ c.loop-room.invariant.0,
+  items-on _ _ _ _ _ _ _ c.loop-room.invariant.1 c.look-seen.ensures c.loop-room-test.true c.if-seen-ne-HASH.false c.piece_after-one.ensures.answered c.piece_after-one.ensures.stored,
+)
+
+pub shape_of-table : goal.shape_of-table
+shape_of-table c = c.loop-room.invariant.0
+
+pub returns : goal.returns
+unfolding more_pieces
+returns c = items-full _ _ _ _ _ _ _ c.loop-room.invariant.1 c.loop-room-test.false

@@ -1,0 +1,8 @@
+use Rattle.syntax.proofs.ItemSteps.{items-are}
+use Rattle.syntax.specs.Piece.{pieces_after, more_pieces}
+use borrow.Author.Rules.{rules}
+use Rattle.syntax.proofs.piece.pieces_after.Goals as goal
+
+pub returns : goal.returns
+unfolding pieces_after more_pieces
+returns c = items-are _ _ _ _ _ _ c.piece_after-one.ensures.answered c.piece_after-one.ensures.stored c.more_pieces.ensures.answered c.more_pieces.ensures.stored

@@ -1,0 +1,7 @@
+use Rattle.syntax.specs.Reader.{token_after}
+use borrow.Author.Rules.{rules}
+use Rattle.syntax.proofs.reader.fixed_after.Goals as goal
+
+pub returns : goal.returns
+unfolding token_after
+returns c = rw c.token_after-taken.ensures

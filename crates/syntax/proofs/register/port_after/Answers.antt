@@ -1,0 +1,7 @@
+use Rattle.syntax.specs.Register.{port_after}
+use borrow.Author.Rules.{rules}
+use Rattle.syntax.proofs.register.port_after.Goals as goal
+
+pub returns : goal.returns
+unfolding port_after
+returns c = rw (port_after, ← c.name_after-name.ensures, ← c.offset_after-offset.ensures)

@@ -1,0 +1,6 @@
+use Rattle.syntax.proofs.TextSteps.{text-is}
+use borrow.Author.Rules.{rules}
+use Rattle.syntax.proofs.text.read_text.Goals as goal
+
+pub returns : goal.returns
+returns c = text-is _ c.parameters_of-parameters.ensures c.declarations_of-all.ensures c.fixed_after-end.ensures c.moved.ensures

@@ -1,0 +1,13 @@
+use mathlib.Core.Path.{refl}
+use Rattle.syntax.specs.Variable.{rest_after}
+use borrow.Author.Tests.{eq-eqb, ne_eqb}
+use borrow.Author.Rules.{rules}
+use Rattle.syntax.proofs.variable.rest_after.Goals as goal
+
+pub returns-then-seen-ne-COMMA : goal.returns-then-seen-ne-COMMA
+unfolding rest_after
+returns-then-seen-ne-COMMA c = rw (rest_after, ← c.look-seen.ensures, ne_eqb _ _ c.if-seen-ne-COMMA.true, ← c.no_behaviours-none.ensures) (refl, refl)
+
+pub returns : goal.returns
+unfolding rest_after
+returns c = rw (rest_after, ← c.look-seen.ensures, eq-eqb _ _ c.if-seen-ne-COMMA.false, ← c.second_after-second.ensures.answered, ← c.more_behaviours-all.ensures) (refl, c.second_after-second.ensures.stored)

@@ -1,0 +1,17 @@
+-- `tables::parameters::ranges_fit` meets its contract: the loop invariant says that what is gathered so far is the
+-- definition at the counter.
+use Rattle.tables.proofs.Laws.{every-none, gathers, gathered-count}
+use Rattle.tables.specs.Every.{every}
+use Rattle.tables.specs.Tables.{range_at, range_in}
+use Rattle.tables.specs.Rules.{range_fits, ranges_fit}
+use mathlib.Core.Path.{◌≡◌, sym}
+use Prim.Native.Nat.{◌≤◌, ◌-◌}
+use native.Mathlib.Omega.{arith}
+use borrow.Author.Rules.{rules}
+use Rattle.tables.proofs.parameters.ranges_fit.Given as goal
+
+abbrev pub invariant-loop-k : goal.invariant-loop-k
+invariant-loop-k l = (l.k ≤ l.n) × (l.ok ≡ every l.k (λ j. range_fits (range_in l.parameters (range_at l.i j))))
+
+abbrev pub decreases-loop-k : goal.decreases-loop-k
+decreases-loop-k l = l.n - l.k

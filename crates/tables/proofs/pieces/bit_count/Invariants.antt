@@ -1,0 +1,16 @@
+-- `tables::pieces::bit_count` meets its contract: the loop invariant says that what is gathered so far is the
+-- definition at the counter.
+use Rattle.tables.proofs.MarkLaws.{count_none, count-more, at_count}
+use Rattle.tables.specs.Tables.{bits_to, variable_part_in}
+use lib.ListN.{length}
+use mathlib.Core.Path.{◌≡◌}
+use Prim.Native.Nat.{ℕ, ◌≤◌, ◌-◌, ◌*◌}
+use native.Mathlib.Omega.{arith}
+use borrow.Author.Rules.{rules}
+use Rattle.tables.proofs.pieces.bit_count.Given as goal
+
+abbrev pub invariant-loop-k : goal.invariant-loop-k
+invariant-loop-k l = (l.k ≤ l.n) × (l.bits ≤ 4294967296 * l.k) × (l.bits ≡ length (bits_to (variable_part_in l.variables l.at) l.k))
+
+abbrev pub decreases-loop-k : goal.decreases-loop-k
+decreases-loop-k l = l.n - l.k

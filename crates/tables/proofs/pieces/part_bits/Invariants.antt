@@ -1,0 +1,20 @@
+use borrow.Author.Rules.{rules}
+use native.Mathlib.Omega.{arith}
+use Prim.Native.Nat.{ℕ, ◌≤◌, ◌-◌, ◌*◌}
+use mathlib.Core.Path.{◌≡◌, sym, ap₂}
+use mathlib.Core.Bool.{Bool, ◌&&◌, not}
+use lib.ListN.{length}
+use Rattle.tables.specs.Every.{every}
+use Rattle.tables.specs.Tables.{bits_to, piece_at, piece_in, variable_part_in}
+use Rattle.tables.specs.Rules.{piece_fits}
+use Rattle.tables.specs.Scan.{overlaps_earlier}
+use Rattle.tables.proofs.Laws.{every-none, gathers, gathered-count}
+use Rattle.tables.proofs.MarkLaws.{at_count, count-more, count_none}
+use Rattle.tables.proofs.DistinctLaws.{maps-says}
+use Rattle.tables.proofs.pieces.part_bits.Given as goal
+
+abbrev pub invariant-loop-k : goal.invariant-loop-k
+invariant-loop-k l = (l.k ≤ l.n) × (l.count ≤ 4294967296 * l.k) × (l.ok ≡ every l.k (λ j. piece_fits l.registers l.part (piece_in l.variables (piece_at l.at j)) && not (overlaps_earlier l.variables l.at j))) × (l.count ≡ length (bits_to (variable_part_in l.variables l.at) l.k))
+
+abbrev pub decreases-loop-k : goal.decreases-loop-k
+decreases-loop-k l = l.n - l.k

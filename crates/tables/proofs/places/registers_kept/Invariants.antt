@@ -1,0 +1,22 @@
+-- `tables::places::registers_kept` meets its contract: the loop invariant says that the slots are those of the
+-- registers passed, and what was gathered of these.
+use borrow.Author.Rules.{rules}
+use native.Mathlib.Omega.{arith}
+use Prim.Native.Nat.{ℕ, ◌≤◌, ◌-◌}
+use mathlib.Core.Path.{◌≡◌, sym, ap}
+use lib.Dec.{eqb}
+use lib.ListN.{length, length-replicate}
+use Rattle.tables.specs.Every.{every}
+use Rattle.tables.specs.Rules.{register_fault}
+use Rattle.tables.specs.Scan.{slot_map}
+use Rattle.tables.proofs.Laws.{every-none, gathers, gathered-count}
+use Rattle.tables.proofs.MapLaws.{map-none}
+use Rattle.tables.proofs.SlotLaws.{fault-told, slots-more}
+use Rattle.tables.proofs.places.registers_kept.Reads as reads
+use Rattle.tables.proofs.places.registers_kept.Given as goal
+
+abbrev pub invariant-loop-i : goal.invariant-loop-i
+invariant-loop-i l = (l.i ≤ l.n) × (length l.reads ≡ 256) × (length l.writes ≡ 256) × (l.reads ≡ slot_map l.registers 0 l.i) × (l.writes ≡ slot_map l.registers 1 l.i) × (l.ok ≡ every l.i (λ k. eqb (register_fault l.parameters l.registers k) 0))
+
+abbrev pub decreases-loop-i : goal.decreases-loop-i
+decreases-loop-i l = l.n - l.i

@@ -1,0 +1,20 @@
+-- `tables::scan::low_dots_marked` meets its contract: the loop invariant says that what is gathered so far is the
+-- definition at the counter.
+use Rattle.tables.proofs.Laws.{every-none, gathers, gathered}
+use Rattle.bits.specs.Bits.{bit}
+use Rattle.tables.specs.Every.{every}
+use Rattle.tables.specs.Scan.{at_once}
+use lib.Dec.{eqb}
+use lib.ListN.{get_or}
+use mathlib.Core.Bool.{not, ◌||◌, Bool}
+use mathlib.Core.Path.{◌≡◌, sym, ap₂}
+use Prim.Native.Nat.{◌≤◌, ◌-◌, ◌+◌}
+use native.Mathlib.Omega.{arith}
+use borrow.Author.Rules.{rules}
+use Rattle.tables.proofs.scan.low_dots_marked.Given as goal
+
+abbrev pub invariant-loop-b : goal.invariant-loop-b
+invariant-loop-b l = (l.b ≤ at_once) × (l.ok ≡ every l.b (λ k. not (bit k l.dots) || not (eqb (get_or l.map (l.from + k) 0) 0)))
+
+abbrev pub decreases-loop-b : goal.decreases-loop-b
+decreases-loop-b l = at_once - l.b

@@ -1,0 +1,22 @@
+-- `tables::whole::variables_kept` meets its contract: the loop invariant says that the maps are those of the variables
+-- passed, and that these keep their rules.
+use Rattle.tables.proofs.SoundLaws.{kept-ends, kept-stops, mapped-more, mapped-none, own-none}
+use Rattle.tables.proofs.Laws.{every-none, gathers, reads-eq}
+use Rattle.tables.specs.Every.{every}
+use Rattle.tables.specs.Rules.{variable_fault}
+use Rattle.tables.specs.Scan.{Mapped}
+use lib.Dec.{eqb}
+use lib.ListN.{length, length-replicate}
+use mathlib.Core.Bool.{true}
+use mathlib.Core.Path.{◌≡◌, sym, ◌∙◌}
+use Prim.Native.Nat.{ℕ, ◌≤◌, ◌-◌}
+use native.Mathlib.Omega.{arith}
+use borrow.Author.Rules.{rules}
+use Rattle.tables.proofs.whole.variables_kept.Reads as reads
+use Rattle.tables.proofs.whole.variables_kept.Given as goal
+
+abbrev pub invariant-loop-v : goal.invariant-loop-v
+invariant-loop-v l = (l.v ≤ l.n) × (length l.reads ≡ 4096) × (length l.writes ≡ 4096) × Mapped l.variables l.v l.reads l.writes × (every l.v (λ u. eqb (variable_fault l.registers l.variables u) 0) ≡ true)
+
+abbrev pub decreases-loop-v : goal.decreases-loop-v
+decreases-loop-v l = l.n - l.v

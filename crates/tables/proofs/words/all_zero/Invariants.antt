@@ -1,0 +1,17 @@
+-- `tables::words::all_zero` meets its contract: what is gathered so far is the definition at the counter.
+use native.Mathlib.Omega.{arith}
+use Prim.Native.Nat.{◌≤◌, ◌-◌, ◌+◌}
+use lib.ListN.{get_or, length}
+use lib.Dec.{eqb}
+use mathlib.Core.Path.{◌≡◌, refl, sym, ◌∙◌}
+use borrow.Author.Rules.{scaled__fits}
+use Rattle.tables.specs.Every.{every}
+use Rattle.tables.proofs.ZeroLaws.{zeros-every}
+use Rattle.tables.proofs.Laws.{every-none, gathers, gathered}
+use Rattle.tables.proofs.words.all_zero.Given as goal
+
+abbrev pub invariant-loop-k : goal.invariant-loop-k
+invariant-loop-k l = (l.k ≤ l.n) × (l.ok ≡ every l.k (λ j. eqb (get_or l.table (l.from + j) 0) 0))
+
+abbrev pub decreases-loop-k : goal.decreases-loop-k
+decreases-loop-k l = l.n - l.k

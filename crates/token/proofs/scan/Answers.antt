@@ -1,0 +1,7 @@
+-- `token::scan` meets its contract. Assumes nothing.
+use Rattle.token.proofs.Laws.{scan-past}
+use borrow.Author.Rules.{rules}
+use Rattle.token.proofs.scan.Goals as goal
+
+pub returns : goal.returns
+returns c = rw (scan-past _ _, ← c.skip-place.ensures) c.token_at.ensures

@@ -1,0 +1,23 @@
+-- `tokens::show_tokens` ends: each token that is not the last brings the reader forward.
+use borrow.Author.Rules.{rules}
+use native.Mathlib.Omega.{arith}
+use Prim.Native.Nat.{◌≤◌, ◌<◌, ◌-◌}
+use mathlib.Core.Path.{◌≡◌, sym, ap, ◌∙◌}
+use lib.ListN.{length}
+use Rattle.token.specs.Fair.{goes_on_lem}
+use Rattle.token.proofs.Laws.{passes}
+use Rattle.tokens.proofs.show_tokens.Goals as goal
+use Rattle.tokens.proofs.show_tokens.Goals.{Then-goes_on}
+
+-- the reader went forward, and not past the end
+ahead : 
+    (c : Then-goes_on)
+    → (c.loop-at.at < c.scan-found.result.next)
+    × (c.scan-found.result.next ≤ length c.args.text.now)
+ahead c =
+    let e = c.scan-found.ensures in
+    rw (ap (λ r. r.next) e)
+    (passes _ _ (ap (λ r. goes_on_lem r.token) (sym e) ∙ sym c.goes_on.ensures ∙ c.if-goes_on.true))
+
+pub loop-at-smaller : goal.loop-at-smaller
+loop-at-smaller c = omega (arith, ahead (goal.at.loop-at-smaller c).Then-goes_on)

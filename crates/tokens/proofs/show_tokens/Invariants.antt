@@ -1,0 +1,15 @@
+-- `tokens::show_tokens` ends: each token that is not the last brings the reader forward.
+use borrow.Author.Rules.{rules}
+use native.Mathlib.Omega.{arith}
+use Prim.Native.Nat.{◌≤◌, ◌<◌, ◌-◌}
+use mathlib.Core.Path.{◌≡◌, sym, ap, ◌∙◌}
+use lib.ListN.{length}
+use Rattle.token.specs.Fair.{goes_on_lem}
+use Rattle.token.proofs.Laws.{passes}
+use Rattle.tokens.proofs.show_tokens.Given as goal
+
+abbrev pub invariant-loop-at : goal.invariant-loop-at
+invariant-loop-at l = l.at ≤ l.at
+
+abbrev pub decreases-loop-at : goal.decreases-loop-at
+decreases-loop-at l = length l.text - l.at

@@ -1,0 +1,19 @@
+-- `wiring::order::register_at` meets its contract: the pieces passed have named `seen` registers, the one asked for not
+-- among them; later pieces only add at the end.
+use Prim.Native.Nat.{ℕ, ◌+◌, ◌-◌, ◌≤◌}
+use mathlib.Core.Path.{◌≡◌, ◌∙◌, refl, sym, ap}
+use mathlib.Core.Logic.{⊎_elim}
+use native.Mathlib.Omega.{arith}
+use lib.Arith.{lt_of_le-ne}
+use lib.ListN.{get_or-eq_default, length}
+use borrow.Author.Rules.{rules}
+use Rattle.wiring.specs.Order.{registers_to}
+use Rattle.wiring.proofs.OrderLaws.{registers-none, registers-old, length-new, access-found}
+use Rattle.logic.proofs.Tests.{failed, passed}
+use Rattle.wiring.proofs.order.register_at.Given as goal
+
+abbrev pub invariant-loop-k : goal.invariant-loop-k
+invariant-loop-k l = (l.k ≤ l.count) × (l.count ≤ 8) × (l.count ≡ l.part.count) × (l.seen ≤ l.n) × (l.seen ≤ l.k) × (l.seen ≡ length (registers_to l.variables l.part l.k))
+
+abbrev pub decreases-loop-k : goal.decreases-loop-k
+decreases-loop-k l = l.count - l.k
