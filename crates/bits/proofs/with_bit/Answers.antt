@@ -2,7 +2,6 @@
 use native.Mathlib.Nat.{one-mul, zero-mul}
 use lib.Pow.{pow_mono}
 use native.Mathlib.Omega.{arith}
-use borrow.Author.Rules.{rules}
 use Rattle.bits.proofs.with_bit.Goals as goal
 
 pub overflow_add-result : goal.overflow_add-result

@@ -9,7 +9,6 @@ use native.Mathlib.Omega.{arith}
 use borrow.Author.Tests.{lt-ltb, le-ltb}
 use Rattle.bits.specs.Values.{decode}
 use Rattle.bits.proofs.Signed.{natural-read, negative-read}
-use borrow.Author.Rules.{rules}
 use Rattle.bits.proofs.values.decode.Goals as goal
 
 pub overflow_cast-result : goal.overflow_cast-result

@@ -1,7 +1,6 @@
 -- `bits::values::encode_natural` meets its contract.
 use borrow.Author.Tests.{lt-ltb, le-ltb}
 use Rattle.bits.specs.Values.{encoded, in_range, encode}
-use borrow.Author.Rules.{rules}
 use Rattle.bits.proofs.values.encode_natural.Goals as goal
 
 pub returns-then-m-limit : goal.returns-then-m-limit

@@ -6,7 +6,6 @@ use lib.Dec.{eqb}
 use lib.Pow.{pow_pos}
 use native.Mathlib.Omega.{arith}
 use borrow.Author.Tests.{ltb-true}
-use borrow.Author.Rules.{rules}
 use Rattle.logic.proofs.Tests.{both}
 use Rattle.bits.proofs.values.encode_negative.Goals as goal
 

@@ -1,6 +1,5 @@
 -- `bits::values::limit` meets its contract.
 use borrow.Author.Tests.{eq-eqb, ne_eqb}
-use borrow.Author.Rules.{rules}
 use Rattle.bits.proofs.values.limit.Goals as goal
 
 pub returns-then-kind-eq1 : goal.returns-then-kind-eq1

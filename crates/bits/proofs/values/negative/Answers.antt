@@ -4,7 +4,6 @@ use native.Mathlib.Omega.{arith}
 use lib.IntN.{ℤ}
 use mir.Syntax.{w64}
 use mir.Val.{SFits, to_z, of_z}
-use borrow.Author.Rules.{rules}
 use Rattle.bits.proofs.Signed.{minus_one, negative-read}
 use Rattle.bits.proofs.values.negative.Goals as goal
 
