@@ -3,7 +3,6 @@
 use mathlib.Core.Path.{◌≡◌, refl, sym, ◌∙◌}
 use mathlib.Core.Bool.{Bool, true, false, not, cond, ◌&&◌, ◌||◌, true≢false, false≢true}
 use mathlib.Core.Logic.{◌⊎◌, inl, inr}
-use borrow.Author.Tests.{not-true, not-false}
 
 pub either : (b : Bool) → (b ≡ true) ⊎ (b ≡ false)
 either true = inl refl
@@ -45,11 +44,11 @@ cond-or true b = refl
 cond-or false b = refl
 
 -- what a test `if !f(..)` tells of the definition that f's answer equals
-pub failed : {answer meaning : Bool} → answer ≡ meaning → not answer ≡ true → meaning ≡ false
-failed {answer} e t = sym e ∙ not-true answer t
+pub failed : {answer meaning : Bool} → answer ≡ meaning → answer ≡ false → meaning ≡ false
+failed e t = sym e ∙ t
 
-pub passed : {answer meaning : Bool} → answer ≡ meaning → not answer ≡ false → meaning ≡ true
-passed {answer} e t = sym e ∙ not-false answer t
+pub passed : {answer meaning : Bool} → answer ≡ meaning → answer ≡ true → meaning ≡ true
+passed e t = sym e ∙ t
 
 -- chains of tests, by the first that does not pass
 pub first-fails : {a : Bool} (b : Bool) → a ≡ false → (a && b) ≡ false

@@ -51,6 +51,8 @@ round-to s num den n d h e =
 -- ---- times 1
 times-one : (x : Float) (s : Bool) (n : ℕ) → n < 2 ^ 53 → T (fits binary64 x) → HasValue x s n 1 → mul binary64 x one ≡ x
 unfolding mul
+times-one nan s n h f v = elim v [ ]
+times-one (inf _) s n h f v = elim v [ ]
 times-one (fin t m e) s n h f v =
     whole_unique binary64 _ (fin t m e) t n (round-fits binary64 (unlike t false) (m * up e * (1 * 1)) (down e * 1)) f
     (subst (λ (u : Bool). HasValue (round binary64 u (m * up e * (1 * 1)) (down e * 1)) t n 1) (sym (same_sign t))
@@ -65,6 +67,8 @@ times-one (fin t m e) s n h f v =
 -- ---- plus +0: the sum's sign is that of x, where x is no -0
 sum-zero : (x : Float) (s : Bool) (n : ℕ) → n < 2 ^ 53 → (s ≡ true → 0 < n) → T (fits binary64 x) → HasValue x s n 1 → add binary64 x zero_of ≡ x
 unfolding add sum
+sum-zero nan s n h nz f v = elim v [ ]
+sum-zero (inf _) s n h nz f v = elim v [ ]
 sum-zero (fin true m e) s n h nz f v =
     let a = m * up e * 1 in
     let b = 0 * 1 * down e in
@@ -102,6 +106,8 @@ same_fraction a k d n l e = ap (λ (x : ℕ). x * k * d) e ∙ ap (λ (x : ℕ).
 times_gain : (x : Float) (t : Bool) (n : ℕ) (s : Bool) (m : ℕ) (e : ℤ) → HasValue x t n 1
     → mul binary64 x (fin s m e) ≡ round binary64 (unlike t s) (n * (m * up e)) (down e)
 unfolding mul
+times_gain nan t n s m e v = elim v [ ]
+times_gain (inf _) t n s m e v = elim v [ ]
 times_gain (fin u k d) t n s m e v =
     ap (λ (b : Bool). round binary64 (unlike b s) (k * up d * (m * up e)) (down d * down e)) v.0
     ∙ round_same binary64 (unlike t s) (k * up d * (m * up e)) (down d * down e) (n * (m * up e)) (down e)

@@ -1,4 +1,4 @@
-use Rattle.std.proofs.Common.{sym, ap, ◌∙◌, w64, rules}
+use Rattle.std.proofs.Common.{sym, ap, ◌∙◌, w64}
 use lib.Ieee.{binary64, of_int}
 use mir.ValLaws.{to_z-of_z}
 use Rattle.logic.proofs.Tests.{failed, passed}

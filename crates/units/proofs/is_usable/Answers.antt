@@ -1,5 +1,4 @@
 -- `units::is_usable` meets its contract. Assumes nothing.
-use Rattle.std.proofs.Common.{rules}
 use Rattle.units.specs.Units.{is_usable}
 use Rattle.units.proofs.is_usable.Goals as goal
 

@@ -1,4 +1,3 @@
-use Rattle.std.proofs.Common.{rules}
 use Rattle.units.proofs.patterns.calibration_of.Goals as goal
 
 pub returns : goal.returns

@@ -1,4 +1,4 @@
-use Rattle.std.proofs.Common.{ℤ, ap, ◌∙◌, arith, w64, to_z, of_z, rules}
+use Rattle.std.proofs.Common.{ℤ, ap, ◌∙◌, arith, w64, to_z, of_z}
 use Rattle.units.specs.declared.Calibration.{Calibration}
 use Rattle.units.specs.Units.{converted}
 use Rattle.units.specs.Lines.{told_as, calibration_of, line_of}

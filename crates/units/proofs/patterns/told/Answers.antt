@@ -1,4 +1,4 @@
-use Rattle.std.proofs.Common.{sym, ap, ◌∙◌, rules}
+use Rattle.std.proofs.Common.{sym, ap, ◌∙◌}
 use Rattle.units.specs.declared.patterns.Line.TheVariants.{Bits}
 use Rattle.units.specs.Lines.{told_as}
 use Rattle.units.proofs.patterns.told.Goals as goal

@@ -1,4 +1,4 @@
-use Rattle.std.proofs.Common.{arith, rules}
+use Rattle.std.proofs.Common.{arith}
 use Rattle.bits.proofs.Signed.{natural-read}
 use Rattle.units.proofs.patterns.unsigned.Goals as goal
 
