@@ -11,4 +11,4 @@ pub returns : goal.returns
 returns c =
     let s = c.args in
     marks-both s.map.now _ _ c.mark_run.ensures c.piece_run-run.ensures.bits
-    (c.mark_run-2.ensures ∙ ap (λ (r : ℕ). marks c.mark_run.new.0 (down_from (64 * r + widest) s.held)) c.word-register.ensures.is)
+    (c.mark_run-2.ensures ∙ ap (λ (r : ℕ). marks c.mark_run.new.map (down_from (64 * r + widest) s.held)) c.word-register.ensures.is)

@@ -3,7 +3,7 @@ use Rattle.tables.proofs.Laws.{not-both, first-none, first_more, first-stop, fir
 use Rattle.tables.specs.Every.{first_of}
 use Rattle.tables.specs.Scan.{covered_by}
 use mathlib.Core.Bool.{not, ◌&&◌}
-use mathlib.Core.Path.{◌≡◌}
+use mathlib.Core.Path.{◌≡◌, ap}
 use Prim.Native.Nat.{◌≤◌, ◌-◌}
 use native.Mathlib.Omega.{arith}
 use borrow.Author.Rules.{rules}
@@ -16,12 +16,12 @@ pub returns-then-not-register_covered : goal.returns-then-not-register_covered
 returns-then-not-register_covered c =
     
     first-stop _ c.loop-i-test.true c.word-n.ensures.is c.loop-i.invariant.1
-    (not-both c.register_covered.ensures c.register_covered-in-loop-i.ensures _ c.if-not-register_covered.true)
+    (not-both c.register_covered.ensures c.register_covered-in-loop-i.ensures _ (ap not c.if-not-register_covered.true))
 
 pub loop-i-preserved : goal.loop-i-preserved
 loop-i-preserved c =
     
-    (omega arith, first_more _ _ c.loop-i.invariant.1 (not-both c.register_covered.ensures c.register_covered-in-loop-i.ensures _ c.if-not-register_covered.false))
+    (omega arith, first_more _ _ c.loop-i.invariant.1 (not-both c.register_covered.ensures c.register_covered-in-loop-i.ensures _ (ap not c.if-not-register_covered.false)))
 
 pub returns : goal.returns
 returns c = first-end _ c.loop-i.invariant.0 c.loop-i-test.false c.word-n.ensures.is c.loop-i.invariant.1

@@ -1,10 +1,7 @@
 -- `tables::words::all_zero` meets its contract: what is gathered so far is the definition at the counter.
 use native.Mathlib.Omega.{arith}
 use Prim.Native.Nat.{◌≤◌, ◌-◌, ◌+◌}
-use lib.ListN.{get_or, length}
-use lib.Dec.{eqb}
 use mathlib.Core.Path.{◌≡◌, refl, sym, ◌∙◌}
-use borrow.Author.Rules.{scaled__fits}
 use Rattle.tables.specs.Every.{every}
 use Rattle.tables.proofs.ZeroLaws.{zeros-every}
 use Rattle.tables.proofs.Laws.{every-none, gathers, gathered}
@@ -12,9 +9,6 @@ use Rattle.tables.proofs.words.all_zero.Goals as goal
 
 pub loop-k-init : goal.loop-k-init
 loop-k-init c = (omega arith, sym (every-none _))
-
-pub offset_bounds-table-from : goal.offset_bounds-table-from
-offset_bounds-table-from c = scaled__fits (c.args.from + c.loop-k.k) (length c.args.table.now) 4 (omega arith) c.well-formed.0.1
 
 pub loop-k-preserved : goal.loop-k-preserved
 loop-k-preserved c = (omega arith, gathers _ _ c.loop-k.invariant.1 refl)

@@ -4,7 +4,6 @@ use Prim.Native.Nat.{◌≤◌, ◌-◌, ◌+◌}
 use lib.ListN.{get_or, length}
 use lib.Dec.{eqb}
 use mathlib.Core.Path.{◌≡◌, refl, sym, ◌∙◌}
-use borrow.Author.Rules.{scaled__fits}
 use Rattle.tables.specs.Every.{every}
 use Rattle.tables.proofs.ZeroLaws.{zeros-every}
 use Rattle.tables.proofs.Laws.{every-none, gathers, gathered}
