@@ -14,7 +14,6 @@ use Rattle.token.specs.Fair.{place_of}
 use Rattle.token.specs.Lexeme.{some, is_ident, is_decimal, is_integer, is_bits_literal, is_sign, is_lexeme, NoneLonger, Longest}
 use Rattle.token.specs.declared.Scanned.{Scanned}
 use Rattle.token.proofs.Bools.{within_both}
-use Rattle.token.proofs.Table.{at}
 use Rattle.token.proofs.Lexemes.{none, none_first, not-one, no-entry}
 
 pub not-true : (b : Bool) → (b ≡ true → ⊥) → b ≡ false

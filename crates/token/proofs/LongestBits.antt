@@ -12,10 +12,9 @@ use borrow.Author.Tests.{eqb-true, eqb-false, eq-eqb, ltb-true, ltb-false}
 use Rattle.token.specs.Bytes.{one_of, within, run_from}
 use Rattle.token.specs.Word.{is_letter}
 use Rattle.token.specs.Scan.{is_bit, bad_token, bits_token, bits_from}
-use Rattle.token.specs.Lexeme.{some, is_decimal, closes_bits, is_bits_literal, NoneLonger, Longest}
+use Rattle.token.specs.Lexeme.{is_decimal, closes_bits, is_bits_literal, NoneLonger, Longest}
 use Rattle.token.specs.declared.Token.TheVariants.{Bits}
 use Rattle.token.proofs.Bools.{either-by}
-use Rattle.token.proofs.Table.{at}
 use Rattle.token.proofs.Laws.{byte_inside}
 use Rattle.token.proofs.RunSteps.{run_from_lem, run-ahead}
 use Rattle.token.proofs.FirstByte.{not-true, bits-lexeme, Taken, longer-none}

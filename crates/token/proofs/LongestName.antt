@@ -11,9 +11,8 @@ use borrow.Author.Tests.{ltb-true, ltb-false}
 use Rattle.token.specs.Bytes.{same, run_from}
 use Rattle.token.specs.Word.{is_letter, is_name_byte, reserved, word_of}
 use Rattle.token.specs.Scan.{name_token, name_from}
-use Rattle.token.specs.Lexeme.{many, some, is_ident, NoneLonger}
+use Rattle.token.specs.Lexeme.{many, is_ident, NoneLonger}
 use Rattle.token.proofs.Bools.{either-by}
-use Rattle.token.proofs.Table.{at}
 use Rattle.token.proofs.RunSteps.{run_from_lem, run-ahead}
 use Rattle.token.proofs.Lexemes.{run-many, run-longer, same-eq, same_self, first_holds, first-least}
 use Rattle.token.proofs.FirstByte.{name-lexeme, Taken, longer-none}

@@ -16,7 +16,6 @@ use Rattle.token.specs.Number.{digit_of, is_digit, value_from, largest, prefixed
 use Rattle.token.specs.Scan.{bad_token, number_token, number_from}
 use Rattle.token.specs.Lexeme.{many, some, is_decimal, is_hexadecimal, is_octal, is_integer, value_of, is_lexeme, NoneLonger}
 use Rattle.token.proofs.Bools.{either, either-by, le-or-lt, within_both}
-use Rattle.token.proofs.Table.{at}
 use Rattle.token.proofs.Numbers.{hexadecimal, octal, decimal}
 use Rattle.token.proofs.RunSteps.{run_from_lem, run-ahead}
 use Rattle.token.proofs.Lexemes.{run-many, run-longer, many-same, none}

@@ -1,4 +1,3 @@
-use borrow.Author.Rules.{rules}
 use Rattle.token.proofs.kind_of.Goals as goal
 
 pub returns-in-Word : goal.returns-in-Word

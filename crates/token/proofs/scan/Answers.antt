@@ -1,6 +1,5 @@
 -- `token::scan` meets its contract. Assumes nothing.
 use Rattle.token.proofs.Laws.{scan-past}
-use borrow.Author.Rules.{rules}
 use Rattle.token.proofs.scan.Goals as goal
 
 pub returns : goal.returns

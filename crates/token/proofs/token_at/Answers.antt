@@ -3,7 +3,6 @@ use mathlib.Core.Path.{sym, ◌∙◌}
 use borrow.Author.Tests.{eq-eqb, ne_eqb}
 use Rattle.token.specs.Scan.{token_by}
 use Rattle.token.proofs.Places.{token-is, token-ends}
-use borrow.Author.Rules.{rules}
 use Rattle.token.proofs.token_at.Goals as goal
 
 pub returns-then-length-place : goal.returns-then-length-place

@@ -5,7 +5,6 @@ use borrow.Author.Tests.{lt-ltb, le-ltb, eq-eqb, ne_eqb}
 use Rattle.token.specs.Scan.{is_bit, bad_token, bits_token}
 use Rattle.token.proofs.Places.{bits_is}
 use Rattle.token.proofs.RunSteps.{run-within}
-use borrow.Author.Rules.{rules}
 use Rattle.token.proofs.bits.bits_token.Goals as goal
 
 pub overflow_add-next : goal.overflow_add-next

@@ -1,7 +1,6 @@
 -- `token::bytes::byte_at` meets its contract. Assumes nothing.
 use mathlib.Core.Path.{sym}
 use lib.ListN.{get_or-eq_default}
-use borrow.Author.Rules.{rules}
 use Rattle.token.proofs.bytes.byte_at.Goals as goal
 
 pub returns-else-i-text : goal.returns-else-i-text

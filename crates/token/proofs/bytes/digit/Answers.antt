@@ -1,6 +1,5 @@
 -- `token::bytes::digit` meets its contract. Assumes nothing.
 use mathlib.Core.Path.{◌∙◌, sym}
-use borrow.Author.Rules.{rules}
 use Rattle.token.specs.Number.{digit_of}
 use Rattle.token.proofs.Bools.{within_both}
 use Rattle.token.proofs.bytes.digit.Goals as goal

@@ -1,6 +1,5 @@
 -- `token::bytes::is_letter` meets its contract. Assumes nothing.
 use mathlib.Core.Path.{◌∙◌, sym}
-use borrow.Author.Rules.{rules}
 use Rattle.token.specs.Word.{is_letter}
 use Rattle.token.proofs.bytes.is_letter.Goals as goal
 

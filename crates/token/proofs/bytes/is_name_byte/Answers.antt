@@ -1,6 +1,5 @@
 -- `token::bytes::is_name_byte` meets its contract. Assumes nothing.
 use mathlib.Core.Path.{◌∙◌, sym}
-use borrow.Author.Rules.{rules}
 use Rattle.token.specs.Word.{is_name_byte}
 use Rattle.token.proofs.bytes.is_name_byte.Goals as goal
 

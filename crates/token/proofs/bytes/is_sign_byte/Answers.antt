@@ -9,7 +9,6 @@ use Rattle.token.specs.Bytes.{within, one_of}
 use Rattle.token.specs.Sign.{is_sign_byte}
 use Rattle.token.proofs.Bools.{beq→eq}
 use Rattle.token.proofs.Table.{at}
-use borrow.Author.Rules.{rules}
 use Rattle.token.proofs.bytes.is_sign_byte.Goals as goal
 
 -- the tests, which antt computes at each byte

@@ -1,7 +1,6 @@
 -- `token::pair_at` meets its contract. Assumes nothing.
 use native.Mathlib.Omega.{arith}
 use mathlib.Core.Path.{sym}
-use borrow.Author.Rules.{rules}
 use borrow.Author.Tests.{ne_eqb, eq-eqb}
 use Rattle.token.proofs.GapSteps.{starts-short, starts-here}
 use Rattle.token.proofs.bytes.pair_at.Goals as goal

@@ -1,28 +1,26 @@
 -- `token::gap::skip` meets its contract. Each loop's invariant says that the gap from `at` ends where the gap from here
 -- does, for a reader that stands between tokens, in a line comment or in a block comment. Each turn takes one step of
 -- the definition. Assumes nothing.
-use Prim.Native.Nat.{◌≤◌, ◌-◌}
 use mathlib.Core.Bool.{false}
 use mathlib.Core.List.{[], ◌∷◌}
 use mathlib.Core.Path.{◌≡◌, refl, sym, ◌∙◌}
 use native.Mathlib.Omega.{arith}
-use lib.ListN.{length, get_or, drop}
-use borrow.Author.Rules.{rules}
+use lib.ListN.{get_or, drop}
 use borrow.Author.Tests.{ne_eqb}
 use Rattle.token.specs.Bytes.{begins}
-use Rattle.token.specs.Gap.{is_blank, gap_from, gap_at, gap, line, block}
+use Rattle.token.specs.Gap.{is_blank, gap_from, gap, line, block}
 use Rattle.token.proofs.GapSteps.{text-ends, gap-blank, gap-line, gap_block, gap-stops, line-goes_on, line-closes, block-goes_on, block-closes}
 use Rattle.token.proofs.gap.skip.Goals as goal
 use Rattle.token.proofs.gap.skip.Goals.{Else-is_blank, Else-pair_at}
 
 -- past the first test: the byte here is no blank
-plain : 
+plain :
     (c : Else-is_blank)
     → is_blank (get_or c.args.text.now c.between.i 0) ≡ false
 plain c = sym c.is_blank.ensures ∙ c.if-is_blank.false
 
 -- past the second: nor does a line comment open here
-no_line : 
+no_line :
     (c : Else-pair_at)
     → begins (47 ∷ 47 ∷ [])
     (drop c.between.i
@@ -39,12 +37,11 @@ between-preserved-then-is_blank c =
     ∙ gap-blank _ _ c.if-text-i.false (sym c.is_blank.ensures ∙ c.if-is_blank.true)
 
 pub line-init : goal.line-init
-line-init c =
-    (
-      omega arith,
-      c.between.invariant
-          ∙ gap-line _ _ c.if-text-i.false (plain (goal.at.line-init c).Else-is_blank) (sym c.pair_at.ensures ∙ c.if-pair_at.true),
-    )
+line-init c = (
+  omega arith,
+  c.between.invariant
+      ∙ gap-line _ _ c.if-text-i.false (plain (goal.at.line-init c).Else-is_blank) (sym c.pair_at.ensures ∙ c.if-pair_at.true),
+)
 
 pub between-preserved-then-text-i-eq10 : goal.between-preserved-then-text-i-eq10
 between-preserved-then-text-i-eq10 c = c.line.invariant.1 ∙ line-closes _ _ c.if-text-i-2.false c.if-text-i-eq10.true
@@ -56,13 +53,11 @@ line-preserved c = (
 )
 
 pub block-init : goal.block-init
-block-init c =
-    
-    (
-      omega arith,
-      c.between.invariant
-          ∙ gap_block _ _ c.if-text-i.false (plain (goal.at.block-init c).Else-is_blank) (no_line (goal.at.block-init c).Else-pair_at) (sym c.pair_at-else-pair_at.ensures ∙ c.if-pair_at-2.true),
-    )
+block-init c = (
+  omega arith,
+  c.between.invariant
+      ∙ gap_block _ _ c.if-text-i.false (plain (goal.at.block-init c).Else-is_blank) (no_line (goal.at.block-init c).Else-pair_at) (sym c.pair_at-else-pair_at.ensures ∙ c.if-pair_at-2.true),
+)
 
 pub block-preserved : goal.block-preserved
 block-preserved c = (
@@ -90,8 +85,6 @@ returns-then-text-i-3 c = sym (c.block.invariant.1 ∙ text-ends _ (block _) _ c
 
 pub returns-else-pair_at-2 : goal.returns-else-pair_at-2
 returns-else-pair_at-2 c =
-    
-    
     sym
     (c.between.invariant
     ∙ gap-stops _ _ c.if-text-i.false (plain (goal.at.returns-else-pair_at-2 c).Else-is_blank) (no_line (goal.at.returns-else-pair_at-2 c).Else-pair_at) (sym c.pair_at-else-pair_at.ensures ∙ c.if-pair_at-2.false))

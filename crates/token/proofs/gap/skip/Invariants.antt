@@ -2,16 +2,9 @@
 -- does, for a reader that stands between tokens, in a line comment or in a block comment. Each turn takes one step of
 -- the definition. Assumes nothing.
 use Prim.Native.Nat.{◌≤◌, ◌-◌}
-use mathlib.Core.Bool.{false}
-use mathlib.Core.List.{[], ◌∷◌}
-use mathlib.Core.Path.{◌≡◌, refl, sym, ◌∙◌}
-use native.Mathlib.Omega.{arith}
-use lib.ListN.{length, get_or, drop}
-use borrow.Author.Rules.{rules}
-use borrow.Author.Tests.{ne_eqb}
-use Rattle.token.specs.Bytes.{begins}
-use Rattle.token.specs.Gap.{is_blank, gap_from, gap_at, gap, line, block}
-use Rattle.token.proofs.GapSteps.{text-ends, gap-blank, gap-line, gap_block, gap-stops, line-goes_on, line-closes, block-goes_on, block-closes}
+use mathlib.Core.Path.{◌≡◌}
+use lib.ListN.{length}
+use Rattle.token.specs.Gap.{gap_at, gap, line, block}
 use Rattle.token.proofs.gap.skip.Given as goal
 
 abbrev pub invariant-line : goal.invariant-line

@@ -5,13 +5,12 @@ use Rattle.token.specs.Bytes.{same}
 use Rattle.token.specs.Word.{reserved}
 use Rattle.token.proofs.Words.{joined}
 use Rattle.token.proofs.Slots.{word_fits, word-part, lengths}
-use borrow.Author.Rules.{rules}
 use Rattle.token.proofs.name.is_word.Goals as goal
 
 pub same_parts-requires : goal.same_parts-requires
 unfolding lengths reserved
-same_parts-requires c = omega (arith, c.wide.ensures.0, c.wide.ensures.0, word_fits _ c.requires.2, c.requires)
+same_parts-requires c = omega (arith, c.wide-start.ensures.0, c.wide.ensures.0, word_fits _ c.requires.2, c.requires)
 
 pub returns : goal.returns
 unfolding lengths reserved joined
-returns c = c.same_parts.ensures ∙ ap (same _) (word-part _ c.requires.2 _ _ c.wide.ensures.0 c.wide.ensures.0)
+returns c = c.same_parts.ensures ∙ ap (same _) (word-part _ c.requires.2 _ _ c.wide-start.ensures.0 c.wide.ensures.0)

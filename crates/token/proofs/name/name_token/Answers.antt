@@ -1,6 +1,5 @@
 -- `token::name::name_token` meets its contract. Assumes nothing.
 use native.Mathlib.Omega.{arith}
-use borrow.Author.Rules.{rules}
 use borrow.Author.Tests.{lt-ltb, le-ltb}
 use Rattle.token.specs.Word.{is_name_byte}
 use Rattle.token.specs.Scan.{name_token}

@@ -1,11 +1,10 @@
 -- `token::name::same_parts` meets its contract: parts of one length are the same where the rests after k equal bytes
 -- are. Assumes nothing.
-use Prim.Native.Nat.{◌+◌, ◌≤◌, ◌-◌}
+use Prim.Native.Nat.{◌+◌}
 use mathlib.Core.Path.{◌≡◌, sym, ◌∙◌}
 use native.Mathlib.Nat.{add-zero, add_assoc}
 use native.Mathlib.Omega.{arith}
 use lib.Seq.{slice, length-slice}
-use Rattle.token.specs.Bytes.{same}
 use Rattle.token.proofs.Same.{same-done, same_next, same_differs, same-unlike}
 use Rattle.token.proofs.name.same_parts.Goals as goal
 

@@ -1,7 +1,6 @@
 -- `token::name::slot` meets its contract. Assumes nothing.
 use Rattle.token.proofs.Slots.{slot_is}
 use mathlib.Core.Path.{refl}
-use borrow.Author.Rules.{rules}
 use Rattle.token.proofs.name.slot.Goals as goal
 
 pub returns : goal.returns

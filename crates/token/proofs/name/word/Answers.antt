@@ -2,7 +2,6 @@
 use mathlib.Core.Path.{sym, ◌∙◌}
 use native.Mathlib.Omega.{arith}
 use Rattle.token.proofs.Slots.{found_word_lem, other_word, empty-word}
-use borrow.Author.Rules.{rules}
 use Rattle.token.proofs.name.word.Goals as goal
 
 pub returns-then-place-end : goal.returns-then-place-end

@@ -125,4 +125,4 @@ returns-in-51 c = rw c.in-51.is
 
 pub returns-in_default : goal.returns-in_default
 unfolding slot_of reserved
-returns-in_default c = sym (no_word-in _ (other-than Unit slot_keys _ c.in_default.rest))
+returns-in_default c = sym (no_word-in _ (other-than Unit slot_keys _ c.in_default.in_default-own.rest))

@@ -1,7 +1,6 @@
 -- `token::number::checked` meets its contract. Assumes nothing.
 use borrow.Author.Tests.{le-leb, lt-leb}
 use Rattle.token.specs.Scan.{bad_token, number_token}
-use borrow.Author.Rules.{rules}
 use Rattle.token.proofs.number.checked.Goals as goal
 
 pub returns-then-value-le-LARGEST : goal.returns-then-value-le-LARGEST

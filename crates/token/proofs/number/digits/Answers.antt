@@ -1,15 +1,12 @@
 -- `token::number::digits` meets its contract: wherever the loop stands, the value and the end of the digits are what
 -- they are from the start, but for the size of a value that is too large. Assumes nothing.
-use Prim.Native.Nat.{◌≤◌, ◌-◌}
 use mathlib.Core.Bool.{true, false}
 use mathlib.Core.Path.{◌≡◌, refl, sym, ap, ◌∙◌}
 use native.Mathlib.Nat.{mul-le-mul}
 use native.Mathlib.Omega.{arith}
-use lib.ListN.{length, get_or, drop}
-use borrow.Author.Rules.{rules}
+use lib.ListN.{get_or}
 use borrow.Author.Tests.{lt-ltb, le-ltb}
-use Rattle.token.specs.Bytes.{run_at}
-use Rattle.token.specs.Number.{is_digit, value_from, value_at, too_large}
+use Rattle.token.specs.Number.{is_digit}
 use Rattle.token.proofs.RunSteps.{run_ends, run-goes_on, run-stops}
 use Rattle.token.proofs.Numbers.{cap, cap-inside, value-ends, value-goes_on, value-stops}
 use Rattle.token.proofs.number.digits.Goals as goal
@@ -25,8 +22,8 @@ returns-then-radix-d c =
     let inside = c.loop-i-test.true in
     let no_digit : is_digit x.radix (get_or x.text.now here.i 0) ≡ false = rw (← c.digit-d.ensures) (le-ltb _ _ c.if-radix-d.true) in
     let kept : cap here.value ≡ here.value = omega arith in record {
-    value = sym (here.invariant.1 ∙ ap cap (value-stops x.radix x.text.now here.i here.value inside no_digit) ∙ kept);
-    end = sym (here.invariant.2 ∙ run-stops _ _ _ inside no_digit)
+      value = sym (here.invariant.1 ∙ ap cap (value-stops x.radix x.text.now here.i here.value inside no_digit) ∙ kept);
+      end = sym (here.invariant.2 ∙ run-stops _ _ _ inside no_digit);
     }
 
 pub overflow_mul-value : goal.overflow_mul-value
@@ -58,6 +55,6 @@ returns c =
     let x = c.args in
     let here = c.loop-i in
     let kept : cap here.value ≡ here.value = omega arith in record {
-    value = sym (here.invariant.1 ∙ ap cap (value-ends x.radix x.text.now here.i here.value c.loop-i-test.false) ∙ kept);
-    end = sym (here.invariant.2 ∙ run_ends _ _ _ c.loop-i-test.false)
+      value = sym (here.invariant.1 ∙ ap cap (value-ends x.radix x.text.now here.i here.value c.loop-i-test.false) ∙ kept);
+      end = sym (here.invariant.2 ∙ run_ends _ _ _ c.loop-i-test.false);
     }

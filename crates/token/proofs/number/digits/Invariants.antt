@@ -1,17 +1,11 @@
 -- `token::number::digits` meets its contract: wherever the loop stands, the value and the end of the digits are what
 -- they are from the start, but for the size of a value that is too large. Assumes nothing.
 use Prim.Native.Nat.{◌≤◌, ◌-◌}
-use mathlib.Core.Bool.{true, false}
-use mathlib.Core.Path.{◌≡◌, refl, sym, ap, ◌∙◌}
-use native.Mathlib.Nat.{mul-le-mul}
-use native.Mathlib.Omega.{arith}
-use lib.ListN.{length, get_or, drop}
-use borrow.Author.Rules.{rules}
-use borrow.Author.Tests.{lt-ltb, le-ltb}
+use mathlib.Core.Path.{◌≡◌}
+use lib.ListN.{length, drop}
 use Rattle.token.specs.Bytes.{run_at}
 use Rattle.token.specs.Number.{is_digit, value_from, value_at, too_large}
-use Rattle.token.proofs.RunSteps.{run_ends, run-goes_on, run-stops}
-use Rattle.token.proofs.Numbers.{cap, cap-inside, value-ends, value-goes_on, value-stops}
+use Rattle.token.proofs.Numbers.{cap}
 use Rattle.token.proofs.number.digits.Given as goal
 
 abbrev pub invariant-loop-i : goal.invariant-loop-i

@@ -4,7 +4,6 @@ use native.Mathlib.Nat.{add-zero}
 use native.Mathlib.Omega.{arith}
 use lib.ListN.{drop}
 use Rattle.token.proofs.Numbers.{number_is, hexadecimal, octal, decimal}
-use borrow.Author.Rules.{rules}
 use Rattle.token.proofs.number.number_token.Goals as goal
 
 pub returns-then-prefixed : goal.returns-then-prefixed

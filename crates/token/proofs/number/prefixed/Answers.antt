@@ -3,7 +3,6 @@ use Prim.Native.Nat.{ℕ}
 use mathlib.Core.Path.{sym, ◌∙◌}
 use lib.Seq.{get_or-drop}
 use Rattle.token.specs.Number.{is_digit, prefixed}
-use borrow.Author.Rules.{rules}
 use Rattle.token.proofs.number.prefixed.Goals as goal
 
 pub returns-then-pair_at : goal.returns-then-pair_at

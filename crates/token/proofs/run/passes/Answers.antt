@@ -1,5 +1,4 @@
 -- `token::run::passes` meets its contract. Assumes nothing.
-use borrow.Author.Rules.{rules}
 use Rattle.token.proofs.run.passes.Goals as goal
 
 pub returns-in-Name : goal.returns-in-Name

@@ -1,13 +1,10 @@
 -- `token::run::run_end` meets its contract: wherever the loop stands, the run ends where it ends from the start.
 -- Assumes nothing.
 use Prim.Native.Nat.{◌-◌}
-use mathlib.Core.Path.{◌≡◌, refl}
-use native.Mathlib.Omega.{arith}
-use borrow.Author.Rules.{rules}
+use mathlib.Core.Path.{◌≡◌}
 use lib.ListN.{length}
 use Rattle.token.specs.Bytes.{run_at}
 use Rattle.token.specs.Scan.{test_of}
-use Rattle.token.proofs.RunSteps.{run_on, run-stopped, run-over}
 use Rattle.token.proofs.run.run_end.Given as goal
 
 abbrev pub invariant-loop-i : goal.invariant-loop-i

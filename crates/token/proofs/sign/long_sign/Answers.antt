@@ -73,11 +73,11 @@ pub returns-in_default : goal.returns-in_default
 unfolding long_sign long_signs first_true begins
 returns-in_default c =
     rw (
-      ne_eqb _ 60 c.in_default.rest.0.0.0.0.0.0.1,
-      ne_eqb _ 46 c.in_default.rest.0.0.0.0.0.1,
-      ne_eqb _ 61 c.in_default.rest.0.0.0.0.1,
-      ne_eqb _ 33 c.in_default.rest.0.0.0.1,
-      ne_eqb _ 62 c.in_default.rest.0.0.1,
-      ne_eqb _ 38 c.in_default.rest.0.1,
-      ne_eqb _ 124 c.in_default.rest.1,
+      ne_eqb _ 60 c.in_default.in_default-own.rest.0.0.0.0.0.0.1,
+      ne_eqb _ 46 c.in_default.in_default-own.rest.0.0.0.0.0.1,
+      ne_eqb _ 61 c.in_default.in_default-own.rest.0.0.0.0.1,
+      ne_eqb _ 33 c.in_default.in_default-own.rest.0.0.0.1,
+      ne_eqb _ 62 c.in_default.in_default-own.rest.0.0.1,
+      ne_eqb _ 38 c.in_default.in_default-own.rest.0.1,
+      ne_eqb _ 124 c.in_default.in_default-own.rest.1,
     )

@@ -2,7 +2,6 @@
 use mathlib.Core.Path.{sym, ◌∙◌}
 use borrow.Author.Tests.{lt-ltb, le-ltb}
 use Rattle.token.specs.Sign.{sign_number, longest_sign}
-use borrow.Author.Rules.{rules}
 use Rattle.token.proofs.sign.sign.Goals as goal
 
 pub returns-then-long-lt9 : goal.returns-then-long-lt9

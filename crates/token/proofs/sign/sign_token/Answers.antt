@@ -6,12 +6,11 @@ use borrow.Author.Tests.{ne_eqb}
 use Rattle.token.specs.Scan.{bad_token, sign_token, sign_here, sign_from}
 use Rattle.token.proofs.Places.{end_is}
 use Rattle.token.proofs.Signs.{sign_here_lem, sign-short}
-use borrow.Author.Rules.{rules}
 use Rattle.token.proofs.sign.sign_token.Goals as goal
 use Rattle.token.proofs.sign.sign_token.Goals.{After-sign-s}
 
 -- where no comment opens, the token is the sign that the three bytes begin with
-found : 
+found :
     (c : After-sign-s)
     → sign_from (drop c.args.place c.args.text.now) c.args.place
     ≡ sign_token (length c.args.text.now) c.args.place c.sign-s.result
