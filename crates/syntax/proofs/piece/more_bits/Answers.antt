@@ -12,9 +12,13 @@ loop-room-init c = (refl, refl)
 pub shape_of-table-then-seen-ne-COMMA : goal.shape_of-table-then-seen-ne-COMMA
 shape_of-table-then-seen-ne-COMMA c = c.loop-room.invariant.0
 
-pub returns-then-seen-ne-COMMA : goal.returns-then-seen-ne-COMMA
+pub returns-then-seen-ne-COMMA-clause-answered : goal.returns-then-seen-ne-COMMA-clause-answered
 unfolding more_bits
-returns-then-seen-ne-COMMA c = items-end _ _ _ _ _ _ _ c.loop-room.invariant.1 c.look-seen.ensures c.if-seen-ne-COMMA.true
+returns-then-seen-ne-COMMA-clause-answered c = (items-end _ _ _ _ _ _ _ c.loop-room.invariant.1 c.look-seen.ensures c.if-seen-ne-COMMA.true).0
+
+pub returns-then-seen-ne-COMMA-clause-stored : goal.returns-then-seen-ne-COMMA-clause-stored
+unfolding more_bits
+returns-then-seen-ne-COMMA-clause-stored c = (items-end _ _ _ _ _ _ _ c.loop-room.invariant.1 c.look-seen.ensures c.if-seen-ne-COMMA.true).1
 
 pub overflow_sub-room : goal.overflow_sub-room
 overflow_sub-room c = omega (arith, c.loop-room-test.true)
@@ -25,13 +29,17 @@ loop-room-smaller c = omega (arith, c.loop-room-test.true)
 pub loop-room-preserved : goal.loop-room-preserved
 unfolding more_bits
 loop-room-preserved c = (
-  c.range_piece-one.auto.1.1.1.1.1.0 ∙ c.loop-room.invariant.0,
+  omega arith,
   items-on _ _ _ _ _ _ _ c.loop-room.invariant.1 c.look-seen.ensures c.loop-room-test.true c.if-seen-ne-COMMA.false c.range_piece-one.ensures.answered c.range_piece-one.ensures.stored,
 )
 
 pub shape_of-table : goal.shape_of-table
 shape_of-table c = c.loop-room.invariant.0
 
-pub returns : goal.returns
+pub returns-clause-answered : goal.returns-clause-answered
 unfolding more_bits
-returns c = items-full _ _ _ _ _ _ _ c.loop-room.invariant.1 c.loop-room-test.false
+returns-clause-answered c = (items-full _ _ _ _ _ _ _ c.loop-room.invariant.1 c.loop-room-test.false).0
+
+pub returns-clause-stored : goal.returns-clause-stored
+unfolding more_bits
+returns-clause-stored c = (items-full _ _ _ _ _ _ _ c.loop-room.invariant.1 c.loop-room-test.false).1

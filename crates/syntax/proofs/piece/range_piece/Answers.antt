@@ -1,13 +1,21 @@
-use mathlib.Core.Path.{◌∙◌}
+use mathlib.Core.Path.{refl, ◌∙◌}
 use Rattle.syntax.specs.Piece.{range_piece}
 use borrow.Author.Rules.{rules}
 use Rattle.syntax.proofs.ItemSteps.{full_is, room-is}
 use Rattle.syntax.proofs.piece.range_piece.Goals as goal
 
-pub returns-then-count-ge8 : goal.returns-then-count-ge8
+pub returns-then-count-ge8-clause-answered : goal.returns-then-count-ge8-clause-answered
 unfolding range_piece
-returns-then-count-ge8 c = full_is _ _ _ _ _ _ _ c.if-count-ge8.true c.extra_after-extra.ensures
+returns-then-count-ge8-clause-answered c = (full_is _ _ _ _ _ _ _ c.if-count-ge8.true c.extra_after-extra.ensures).0
 
-pub returns : goal.returns
+pub returns-then-count-ge8-clause-stored : goal.returns-then-count-ge8-clause-stored
 unfolding range_piece
-returns c = room-is _ _ _ _ _ _ _ c.if-count-ge8.false (rw c.range_after-range.ensures) (c.store_piece.ensures ∙ rw c.range_after-range.ensures)
+returns-then-count-ge8-clause-stored c = (full_is _ _ _ _ _ _ _ c.if-count-ge8.true c.extra_after-extra.ensures).1
+
+pub returns-clause-answered : goal.returns-clause-answered
+unfolding range_piece
+returns-clause-answered c = (room-is _ _ _ _ _ _ _ c.if-count-ge8.false (rw c.range_after-range.ensures) refl).0
+
+pub returns-clause-stored : goal.returns-clause-stored
+unfolding range_piece
+returns-clause-stored c = (room-is _ _ _ _ _ _ _ c.if-count-ge8.false refl (c.store_piece.ensures ∙ rw c.range_after-range.ensures)).1

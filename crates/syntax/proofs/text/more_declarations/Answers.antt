@@ -13,7 +13,7 @@ loop-room-init c = refl
 
 pub returns-then-not-declares : goal.returns-then-not-declares
 unfolding more_declarations bare outlined
-returns-then-not-declares c = sym (ap outlined (c.loop-room.invariant ∙ turn_end _ _ _ _ _ _ c.look-seen.ensures _ (failed c.declares.ensures c.if-not-declares.true)))
+returns-then-not-declares c = sym (ap outlined (c.loop-room.invariant ∙ turn_end _ _ _ _ _ _ c.look-seen.ensures _ (sym c.declares.ensures ∙ c.if-not-declares.true)))
 
 pub overflow_sub-room : goal.overflow_sub-room
 overflow_sub-room c = omega (arith, c.loop-room-test.true)
@@ -23,7 +23,7 @@ loop-room-smaller c = omega (arith, c.loop-room-test.true)
 
 pub loop-room-preserved : goal.loop-room-preserved
 unfolding more_declarations bare
-loop-room-preserved c = c.loop-room.invariant ∙ turn_on _ _ _ _ _ _ c.look-seen.ensures _ _ _ (omega (arith, c.loop-room-test.true)) (passed c.declares.ensures c.if-not-declares.false) (bare-is c.declaration_next-all.ensures)
+loop-room-preserved c = c.loop-room.invariant ∙ turn_on _ _ _ _ _ _ c.look-seen.ensures _ _ _ (omega (arith, c.loop-room-test.true)) (sym c.declares.ensures ∙ c.if-not-declares.false) (bare-is c.declaration_next-all.ensures)
 
 pub returns : goal.returns
 unfolding more_declarations bare outlined
