@@ -7,7 +7,7 @@ use Rattle.syntax.proofs.reader.name_after.Goals as goal
 
 pub returns-in_default : goal.returns-in_default
 unfolding name_after name_in
-returns-in_default c = rw (name_after, ← c.token_after-taken.ensures, name_in, no_name _ c.in_default.in_default-own.keys2, c.place_of.ensures, c.length_of.ensures)
+returns-in_default c = rw (name_after, ← c.token_after-taken.ensures, name_in, no_name _ c.in_default.not-Name, c.place_of.ensures, c.length_of.ensures)
 
 pub returns-then-length-gt64 : goal.returns-then-length-gt64
 unfolding name_after name_in long_name
