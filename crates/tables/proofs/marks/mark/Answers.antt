@@ -1,7 +1,6 @@
 -- `tables::marks::mark` meets its contract: what the calls promise gives the rest.
 use lib.Seq.{set_out}
 use mathlib.Core.Path.{sym}
-use borrow.Author.Rules.{rules}
 use Rattle.tables.proofs.marks.mark.Goals as goal
 
 pub returns-else-at-map : goal.returns-else-at-map

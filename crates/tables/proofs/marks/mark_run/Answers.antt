@@ -1,12 +1,8 @@
 -- `tables::marks::mark_run` meets its contract: the loop invariant says that the work that remains gives what the whole
 -- work gives.
-use Prim.Native.Nat.{◌≤◌}
 use Rattle.tables.proofs.MarkLaws.{marks-turn, marks-end}
-use Rattle.tables.specs.Marks.{down_from, marks}
-use lib.ListN.{length}
-use mathlib.Core.Path.{◌≡◌, sym, ◌∙◌}
+use mathlib.Core.Path.{sym, ◌∙◌}
 use native.Mathlib.Omega.{arith}
-use borrow.Author.Rules.{rules}
 use Rattle.tables.proofs.marks.mark_run.Goals as goal
 
 pub loop-k-preserved : goal.loop-k-preserved

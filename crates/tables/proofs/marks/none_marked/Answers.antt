@@ -1,12 +1,8 @@
 -- `tables::marks::none_marked` meets its contract: the loop invariant says that the work that remains gives what the
 -- whole work gives.
 use Rattle.tables.proofs.MarkLaws.{free-turn, free-end}
-use Rattle.tables.specs.Marks.{down_from, free}
-use mathlib.Core.Bool.{◌&&◌}
-use mathlib.Core.Path.{◌≡◌, refl, sym, ◌∙◌}
-use Prim.Native.Nat.{◌≤◌}
+use mathlib.Core.Path.{refl, sym, ◌∙◌}
 use native.Mathlib.Omega.{arith}
-use borrow.Author.Rules.{rules}
 use Rattle.tables.proofs.marks.none_marked.Goals as goal
 
 pub loop-k-preserved : goal.loop-k-preserved

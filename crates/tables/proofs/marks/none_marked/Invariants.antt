@@ -1,12 +1,9 @@
 -- `tables::marks::none_marked` meets its contract: the loop invariant says that the work that remains gives what the
 -- whole work gives.
-use Rattle.tables.proofs.MarkLaws.{free-turn, free-end}
 use Rattle.tables.specs.Marks.{down_from, free}
 use mathlib.Core.Bool.{◌&&◌}
-use mathlib.Core.Path.{◌≡◌, refl, sym, ◌∙◌}
+use mathlib.Core.Path.{◌≡◌}
 use Prim.Native.Nat.{◌≤◌}
-use native.Mathlib.Omega.{arith}
-use borrow.Author.Rules.{rules}
 use Rattle.tables.proofs.marks.none_marked.Given as goal
 
 abbrev pub invariant-loop-k : goal.invariant-loop-k

@@ -3,7 +3,6 @@ use lib.ListN.{get_or-eq_default}
 use lib.Dec.{eqb}
 use Prim.Native.Nat.{ℕ}
 use mathlib.Core.Path.{sym, ap}
-use borrow.Author.Rules.{rules}
 use Rattle.tables.proofs.marks.unmarked.Goals as goal
 
 pub returns-else-at-map : goal.returns-else-at-map

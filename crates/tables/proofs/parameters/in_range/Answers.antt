@@ -1,5 +1,4 @@
 -- `tables::parameters::in_range` meets its contract: the answer is rewritten with what the calls promise.
-use borrow.Author.Rules.{rules}
 use Rattle.tables.proofs.parameters.in_range.Goals as goal
 
 pub returns : goal.returns

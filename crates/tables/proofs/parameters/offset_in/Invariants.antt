@@ -1,13 +1,10 @@
 -- `tables::parameters::offset_in` meets its contract: the loop invariant says that what is gathered so far is the
 -- definition at the counter.
-use Rattle.tables.proofs.Laws.{some-none, finds, found-count}
 use Rattle.tables.specs.Every.{some}
 use Rattle.tables.specs.Tables.{range_at, range_in}
-use Rattle.tables.specs.Rules.{offset_in, range_holds}
-use mathlib.Core.Path.{◌≡◌, sym}
+use Rattle.tables.specs.Rules.{range_holds}
+use mathlib.Core.Path.{◌≡◌}
 use Prim.Native.Nat.{◌≤◌, ◌-◌}
-use native.Mathlib.Omega.{arith}
-use borrow.Author.Rules.{rules}
 use Rattle.tables.proofs.parameters.offset_in.Given as goal
 
 abbrev pub invariant-loop-k : goal.invariant-loop-k

@@ -1,6 +1,5 @@
 -- `tables::parameters::parameter_fault` meets its contract: the answer is rewritten with what the calls promise.
 use Rattle.tables.specs.Rules.{parameter_fault}
-use borrow.Author.Rules.{rules}
 use Rattle.tables.proofs.parameters.parameter_fault.Goals as goal
 
 pub returns : goal.returns

@@ -1,7 +1,6 @@
 -- `tables::parameters::parameter_shape` meets its contract: the answer is rewritten with what the calls promise.
 use Rattle.tables.specs.Rules.{parameter_shape}
 use Rattle.tables.proofs.Laws.{reads-le, reads_over}
-use borrow.Author.Rules.{rules}
 use Rattle.tables.proofs.parameters.parameter_shape.Goals as goal
 
 pub returns-then-n-gt16 : goal.returns-then-n-gt16

@@ -1,5 +1,4 @@
 -- `tables::parameters::range_fits` meets its contract: the answer is rewritten with what the calls promise.
-use borrow.Author.Rules.{rules}
 use Rattle.tables.proofs.parameters.range_fits.Goals as goal
 
 pub returns : goal.returns

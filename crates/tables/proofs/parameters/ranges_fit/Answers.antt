@@ -1,11 +1,8 @@
 -- `tables::parameters::ranges_fit` meets its contract: the loop invariant says that what is gathered so far is the
 -- definition at the counter.
 use Rattle.tables.proofs.Laws.{every-none, gathers, gathered-count}
-use Rattle.tables.specs.Every.{every}
-use Rattle.tables.specs.Tables.{range_at, range_in}
-use Rattle.tables.specs.Rules.{range_fits, ranges_fit}
-use mathlib.Core.Path.{◌≡◌, sym}
-use Prim.Native.Nat.{◌≤◌, ◌-◌}
+use Rattle.tables.specs.Rules.{ranges_fit}
+use mathlib.Core.Path.{sym}
 use native.Mathlib.Omega.{arith}
 use borrow.Author.Rules.{rules}
 use Rattle.tables.proofs.parameters.ranges_fit.Goals as goal

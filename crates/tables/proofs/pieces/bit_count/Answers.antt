@@ -3,8 +3,7 @@
 use Rattle.tables.proofs.MarkLaws.{count_none, count-more, at_count}
 use Rattle.tables.specs.Tables.{bits_to, variable_part_in}
 use lib.ListN.{length}
-use mathlib.Core.Path.{◌≡◌}
-use Prim.Native.Nat.{ℕ, ◌≤◌, ◌-◌, ◌*◌}
+use Prim.Native.Nat.{ℕ}
 use native.Mathlib.Omega.{arith}
 use borrow.Author.Rules.{rules}
 use Rattle.tables.proofs.pieces.bit_count.Goals as goal

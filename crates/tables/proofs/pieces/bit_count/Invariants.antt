@@ -1,12 +1,9 @@
 -- `tables::pieces::bit_count` meets its contract: the loop invariant says that what is gathered so far is the
 -- definition at the counter.
-use Rattle.tables.proofs.MarkLaws.{count_none, count-more, at_count}
 use Rattle.tables.specs.Tables.{bits_to, variable_part_in}
 use lib.ListN.{length}
 use mathlib.Core.Path.{◌≡◌}
-use Prim.Native.Nat.{ℕ, ◌≤◌, ◌-◌, ◌*◌}
-use native.Mathlib.Omega.{arith}
-use borrow.Author.Rules.{rules}
+use Prim.Native.Nat.{◌≤◌, ◌-◌, ◌*◌}
 use Rattle.tables.proofs.pieces.bit_count.Given as goal
 
 abbrev pub invariant-loop-k : goal.invariant-loop-k

@@ -2,7 +2,6 @@
 use native.Mathlib.Omega.{arith}
 use lib.Pow.{pow_pos}
 use Rattle.tables.proofs.RunLaws.{dots-set}
-use borrow.Author.Rules.{rules}
 use Rattle.tables.proofs.pieces.dots_run.Goals as goal
 
 pub nonzero_rem-result : goal.nonzero_rem-result

@@ -1,12 +1,9 @@
 -- `tables::pieces::free_part` meets its contract: the loop invariant says that what is gathered so far is the
 -- definition at the counter.
-use Prim.Native.Nat.{ℕ, ◌≤◌, ◌-◌}
-use Rattle.tables.proofs.MarkLaws.{at_count, free-none, free_more}
+use Prim.Native.Nat.{◌≤◌, ◌-◌}
 use Rattle.tables.specs.Marks.{free}
 use Rattle.tables.specs.Tables.{bits_to, variable_part_in}
 use mathlib.Core.Path.{◌≡◌}
-use native.Mathlib.Omega.{arith}
-use borrow.Author.Rules.{rules}
 use Rattle.tables.proofs.pieces.free_part.Given as goal
 
 abbrev pub invariant-loop-k : goal.invariant-loop-k

@@ -1,15 +1,14 @@
 -- `tables::pieces::mark_part` meets its contract: the loop invariant says that what is gathered so far is the
 -- definition at the counter.
-use Prim.Native.Nat.{ℕ, ◌≤◌, ◌-◌}
+use Prim.Native.Nat.{ℕ}
 use Rattle.tables.proofs.MarkLaws.{at_count, marks-none, marks-more}
 use Rattle.tables.proofs.HoldLaws.{held-most}
 use Rattle.tables.specs.Marks.{joined, marks}
 use Rattle.tables.specs.Tables.{piece_at, piece_in, variable_part_in}
 use Rattle.tables.specs.Scan.{piece_enters}
-use lib.ListN.{length}
 use lib.Dec.{eqb}
 use mathlib.Core.Bool.{cond}
-use mathlib.Core.Path.{◌≡◌, refl, ap, ◌∙◌}
+use mathlib.Core.Path.{refl, ap, ◌∙◌}
 use native.Mathlib.Omega.{arith}
 use borrow.Author.Rules.{rules}
 use Rattle.tables.proofs.pieces.mark_part.Goals as goal
@@ -19,9 +18,9 @@ loop-k-init c = (search rules, refl, marks-none _ _)
 
 pub mark_piece-requires : goal.mark_piece-requires
 mark_piece-requires c = record {
-    piece_bound = search rules;
-    held_bound = held-most (eqb c.word.result 1) c.pick-held.ensures
-    }
+  piece_bound = search rules;
+  held_bound = held-most (eqb c.word.result 1) c.pick-held.ensures;
+}
 
 pub loop-k-preserved : goal.loop-k-preserved
 loop-k-preserved c =

@@ -1,17 +1,11 @@
 -- `tables::pieces::mark_part` meets its contract: the loop invariant says that what is gathered so far is the
 -- definition at the counter.
-use Prim.Native.Nat.{ℕ, ◌≤◌, ◌-◌}
-use Rattle.tables.proofs.MarkLaws.{at_count, marks-none, marks-more}
-use Rattle.tables.proofs.HoldLaws.{held-most}
+use Prim.Native.Nat.{◌≤◌, ◌-◌}
 use Rattle.tables.specs.Marks.{joined, marks}
-use Rattle.tables.specs.Tables.{piece_at, piece_in, variable_part_in}
+use Rattle.tables.specs.Tables.{piece_at, piece_in}
 use Rattle.tables.specs.Scan.{piece_enters}
 use lib.ListN.{length}
-use lib.Dec.{eqb}
-use mathlib.Core.Bool.{cond}
-use mathlib.Core.Path.{◌≡◌, refl, ap, ◌∙◌}
-use native.Mathlib.Omega.{arith}
-use borrow.Author.Rules.{rules}
+use mathlib.Core.Path.{◌≡◌}
 use Rattle.tables.proofs.pieces.mark_part.Given as goal
 
 abbrev pub invariant-loop-k : goal.invariant-loop-k

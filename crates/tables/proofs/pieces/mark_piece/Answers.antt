@@ -4,7 +4,6 @@ use Rattle.bits.specs.Widths.{widest}
 use Rattle.tables.specs.Marks.{down_from, marks}
 use Prim.Native.Nat.{ℕ, ◌+◌, ◌*◌}
 use mathlib.Core.Path.{ap, ◌∙◌}
-use borrow.Author.Rules.{rules}
 use Rattle.tables.proofs.pieces.mark_piece.Goals as goal
 
 pub returns : goal.returns

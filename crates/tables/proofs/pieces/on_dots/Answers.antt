@@ -1,6 +1,5 @@
 -- `tables::pieces::on_dots` meets its contract: the answer is rewritten with what the calls promise.
 use Rattle.tables.specs.Rules.{on_dots}
-use borrow.Author.Rules.{rules}
 use Rattle.tables.proofs.pieces.on_dots.Goals as goal
 
 pub returns : goal.returns

@@ -1,7 +1,6 @@
 -- `tables::pieces::overlaps` meets its contract: the registers decide, or the ranges are compared.
 use mathlib.Core.Path.{sym, ◌∙◌}
 use Rattle.tables.proofs.Laws.{reads-eq, reads-ne}
-use borrow.Author.Rules.{rules}
 use Rattle.tables.proofs.pieces.overlaps.Goals as goal
 
 pub returns-then-word : goal.returns-then-word

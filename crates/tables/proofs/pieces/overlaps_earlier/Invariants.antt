@@ -1,13 +1,10 @@
 -- `tables::pieces::overlaps_earlier` meets its contract: the loop invariant says that what is gathered so far is the
 -- definition at the counter.
-use Rattle.tables.proofs.Laws.{some-none, finds, found}
 use Rattle.tables.specs.Every.{some}
 use Rattle.tables.specs.Tables.{piece_at, piece_in}
-use Rattle.tables.specs.Scan.{overlap, overlaps_earlier}
-use mathlib.Core.Path.{◌≡◌, sym}
+use Rattle.tables.specs.Scan.{overlap}
+use mathlib.Core.Path.{◌≡◌}
 use Prim.Native.Nat.{◌≤◌, ◌-◌}
-use native.Mathlib.Omega.{arith}
-use borrow.Author.Rules.{rules}
 use Rattle.tables.proofs.pieces.overlaps_earlier.Given as goal
 
 abbrev pub invariant-loop-j : goal.invariant-loop-j

@@ -1,13 +1,10 @@
 use borrow.Author.Rules.{rules}
 use native.Mathlib.Omega.{arith}
-use Prim.Native.Nat.{ℕ, ◌≤◌, ◌-◌, ◌*◌}
-use mathlib.Core.Path.{◌≡◌, sym, ap₂}
+use Prim.Native.Nat.{ℕ}
+use mathlib.Core.Path.{sym, ap₂}
 use mathlib.Core.Bool.{Bool, ◌&&◌, not}
 use lib.ListN.{length}
-use Rattle.tables.specs.Every.{every}
-use Rattle.tables.specs.Tables.{bits_to, piece_at, piece_in, variable_part_in}
-use Rattle.tables.specs.Rules.{piece_fits}
-use Rattle.tables.specs.Scan.{overlaps_earlier}
+use Rattle.tables.specs.Tables.{bits_to, variable_part_in}
 use Rattle.tables.proofs.Laws.{every-none, gathers, gathered-count}
 use Rattle.tables.proofs.MarkLaws.{at_count, count-more, count_none}
 use Rattle.tables.proofs.DistinctLaws.{maps-says}
@@ -33,6 +30,6 @@ returns c =
     let vs = s.variables.now in
     let count = at_count (λ (k : ℕ). length (bits_to (variable_part_in vs s.at) k)) l.invariant.0 c.loop-k-test.false c.word-n.ensures.is l.invariant.3 in
     record {
-    maps = maps-says s.registers.now vs s.part s.at (gathered-count _ l.invariant.0 c.loop-k-test.false c.word-n.ensures.is l.invariant.2) count;
-    count = count
+      maps = maps-says s.registers.now vs s.part s.at (gathered-count _ l.invariant.0 c.loop-k-test.false c.word-n.ensures.is l.invariant.2) count;
+      count = count;
     }

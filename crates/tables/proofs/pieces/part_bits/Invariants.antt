@@ -1,16 +1,11 @@
-use borrow.Author.Rules.{rules}
-use native.Mathlib.Omega.{arith}
-use Prim.Native.Nat.{ℕ, ◌≤◌, ◌-◌, ◌*◌}
-use mathlib.Core.Path.{◌≡◌, sym, ap₂}
-use mathlib.Core.Bool.{Bool, ◌&&◌, not}
+use Prim.Native.Nat.{◌≤◌, ◌-◌, ◌*◌}
+use mathlib.Core.Path.{◌≡◌}
+use mathlib.Core.Bool.{◌&&◌, not}
 use lib.ListN.{length}
 use Rattle.tables.specs.Every.{every}
 use Rattle.tables.specs.Tables.{bits_to, piece_at, piece_in, variable_part_in}
 use Rattle.tables.specs.Rules.{piece_fits}
 use Rattle.tables.specs.Scan.{overlaps_earlier}
-use Rattle.tables.proofs.Laws.{every-none, gathers, gathered-count}
-use Rattle.tables.proofs.MarkLaws.{at_count, count-more, count_none}
-use Rattle.tables.proofs.DistinctLaws.{maps-says}
 use Rattle.tables.proofs.pieces.part_bits.Given as goal
 
 abbrev pub invariant-loop-k : goal.invariant-loop-k

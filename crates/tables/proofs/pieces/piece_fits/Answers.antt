@@ -2,7 +2,6 @@
 use borrow.Author.Tests.{le-leb, lt-leb, lt-ltb}
 use Rattle.tables.proofs.Laws.{reads_past}
 use Rattle.tables.specs.Rules.{piece_fits}
-use borrow.Author.Rules.{rules}
 use Rattle.tables.proofs.pieces.piece_fits.Goals as goal
 
 pub returns-then-high-ge-WIDEST : goal.returns-then-high-ge-WIDEST
@@ -17,7 +16,6 @@ returns-then-high-low c =
 pub returns : goal.returns
 unfolding piece_fits
 returns c =
-    
     rw (
       ← c.word-register.ensures.is,
       ← c.word-high.ensures.is,

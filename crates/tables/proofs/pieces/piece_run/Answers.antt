@@ -1,7 +1,6 @@
 -- `tables::pieces::piece_run` meets its contract: what the calls promise gives the rest.
 use Rattle.tables.proofs.MarkLaws as laws
 use native.Mathlib.Omega.{arith}
-use borrow.Author.Rules.{rules}
 use Rattle.tables.proofs.pieces.piece_run.Goals as goal
 
 pub returns-then-low-high : goal.returns-then-low-high

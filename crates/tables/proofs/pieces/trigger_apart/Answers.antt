@@ -1,6 +1,6 @@
 -- `tables::pieces::trigger_apart` meets its contract: the loop invariant says that what is gathered so far is the
 -- definition at the counter.
-use Prim.Native.Nat.{ℕ, ◌≤◌, ◌-◌, ◌+◌, ◌*◌}
+use Prim.Native.Nat.{ℕ, ◌+◌, ◌*◌}
 use Rattle.tables.proofs.MarkLaws.{at_count, free-none, free_more, free_one}
 use Rattle.bits.specs.Widths.{widest}
 use Rattle.tables.specs.Marks.{free, joined}
@@ -9,7 +9,7 @@ use Rattle.tables.specs.Words.{piece_register}
 use mathlib.Core.List.{List, [], ◌∷◌}
 use lib.Dec.{eqb}
 use mathlib.Core.Bool.{cond}
-use mathlib.Core.Path.{◌≡◌, refl, ap, ◌∙◌}
+use mathlib.Core.Path.{refl, ap, ◌∙◌}
 use native.Mathlib.Omega.{arith}
 use borrow.Author.Rules.{rules}
 use Rattle.tables.proofs.pieces.trigger_apart.Goals as goal

@@ -1,17 +1,11 @@
 -- `tables::pieces::trigger_apart` meets its contract: the loop invariant says that what is gathered so far is the
 -- definition at the counter.
-use Prim.Native.Nat.{ℕ, ◌≤◌, ◌-◌, ◌+◌, ◌*◌}
-use Rattle.tables.proofs.MarkLaws.{at_count, free-none, free_more, free_one}
-use Rattle.bits.specs.Widths.{widest}
+use Prim.Native.Nat.{◌≤◌, ◌-◌, ◌+◌, ◌*◌}
 use Rattle.tables.specs.Marks.{free, joined}
-use Rattle.tables.specs.Tables.{piece_at, variable_part_in}
+use Rattle.tables.specs.Tables.{piece_at}
 use Rattle.tables.specs.Words.{piece_register}
-use mathlib.Core.List.{List, [], ◌∷◌}
-use lib.Dec.{eqb}
-use mathlib.Core.Bool.{cond}
-use mathlib.Core.Path.{◌≡◌, refl, ap, ◌∙◌}
-use native.Mathlib.Omega.{arith}
-use borrow.Author.Rules.{rules}
+use mathlib.Core.List.{[], ◌∷◌}
+use mathlib.Core.Path.{◌≡◌}
 use Rattle.tables.proofs.pieces.trigger_apart.Given as goal
 
 abbrev pub invariant-loop-k : goal.invariant-loop-k

@@ -1,5 +1,4 @@
 -- `tables::places::enter_slot` meets its contract: the number marked is the slot.
-use borrow.Author.Rules.{rules}
 use Rattle.tables.proofs.places.enter_slot.Goals as goal
 
 pub returns : goal.returns

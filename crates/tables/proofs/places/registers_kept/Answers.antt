@@ -2,17 +2,13 @@
 -- registers passed, and what was gathered of these.
 use borrow.Author.Rules.{rules}
 use native.Mathlib.Omega.{arith}
-use Prim.Native.Nat.{ℕ, ◌≤◌, ◌-◌}
-use mathlib.Core.Path.{◌≡◌, sym, ap}
+use Prim.Native.Nat.{ℕ}
+use mathlib.Core.Path.{sym, ap}
 use lib.Dec.{eqb}
-use lib.ListN.{length, length-replicate}
-use Rattle.tables.specs.Every.{every}
-use Rattle.tables.specs.Rules.{register_fault}
-use Rattle.tables.specs.Scan.{slot_map}
+use lib.ListN.{length-replicate}
 use Rattle.tables.proofs.Laws.{every-none, gathers, gathered-count}
 use Rattle.tables.proofs.MapLaws.{map-none}
 use Rattle.tables.proofs.SlotLaws.{fault-told, slots-more}
-use Rattle.tables.proofs.places.registers_kept.Reads as reads
 use Rattle.tables.proofs.places.registers_kept.Goals as goal
 
 pub loop-i-init : goal.loop-i-init
@@ -20,23 +16,22 @@ loop-i-init c = (search rules, length-replicate {A = ℕ} 256 0, length-replicat
 
 pub taken_before-requires : goal.taken_before-requires
 taken_before-requires c = record {
-    part_bound = search rules;
-    i_bound = search rules;
-    slots_value = c.loop-i.invariant.3
-    }
+  part_bound = search rules;
+  i_bound = search rules;
+  slots_value = c.loop-i.invariant.3;
+}
 
 pub taken_before-requires-in-loop-i : goal.taken_before-requires-in-loop-i
 taken_before-requires-in-loop-i c = record {
-    part_bound = search rules;
-    i_bound = search rules;
-    slots_value = c.loop-i.invariant.4
-    }
+  part_bound = search rules;
+  i_bound = search rules;
+  slots_value = c.loop-i.invariant.4;
+}
 
 pub loop-i-preserved : goal.loop-i-preserved
 loop-i-preserved c =
     let x = c.args in
     let rs = x.registers.now in
-    
     let l = c.loop-i in (
       omega arith,
       omega arith,

@@ -1,18 +1,12 @@
 -- `tables::places::registers_kept` meets its contract: the loop invariant says that the slots are those of the
 -- registers passed, and what was gathered of these.
-use borrow.Author.Rules.{rules}
-use native.Mathlib.Omega.{arith}
-use Prim.Native.Nat.{ℕ, ◌≤◌, ◌-◌}
-use mathlib.Core.Path.{◌≡◌, sym, ap}
+use Prim.Native.Nat.{◌≤◌, ◌-◌}
+use mathlib.Core.Path.{◌≡◌}
 use lib.Dec.{eqb}
-use lib.ListN.{length, length-replicate}
+use lib.ListN.{length}
 use Rattle.tables.specs.Every.{every}
 use Rattle.tables.specs.Rules.{register_fault}
 use Rattle.tables.specs.Scan.{slot_map}
-use Rattle.tables.proofs.Laws.{every-none, gathers, gathered-count}
-use Rattle.tables.proofs.MapLaws.{map-none}
-use Rattle.tables.proofs.SlotLaws.{fault-told, slots-more}
-use Rattle.tables.proofs.places.registers_kept.Reads as reads
 use Rattle.tables.proofs.places.registers_kept.Given as goal
 
 abbrev pub invariant-loop-i : goal.invariant-loop-i

@@ -1,6 +1,5 @@
 -- `tables::places::taken_before` meets its contract: a new slot says that the place is not taken.
 use Rattle.tables.proofs.SlotLaws.{slot-new}
-use borrow.Author.Rules.{rules}
 use Rattle.tables.proofs.places.taken_before.Goals as goal
 
 pub returns-then-unmarked : goal.returns-then-unmarked

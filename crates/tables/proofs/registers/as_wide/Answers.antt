@@ -1,7 +1,6 @@
 -- `tables::registers::as_wide` meets its contract: the answer is rewritten with what the calls promise.
 use Rattle.tables.specs.Rules.{as_wide}
 use Rattle.logic.proofs.Tests.{cond-or}
-use borrow.Author.Rules.{rules}
 use Rattle.tables.proofs.registers.as_wide.Goals as goal
 
 pub returns : goal.returns

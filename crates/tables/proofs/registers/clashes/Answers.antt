@@ -2,7 +2,6 @@ use Rattle.tables.proofs.Laws.{guard-taken, guard-left}
 use mathlib.Core.Path.{refl, ap}
 use mathlib.Core.Bool.{Bool, ◌&&◌, not}
 use lib.Dec.{eqb}
-use borrow.Author.Rules.{rules}
 use Rattle.tables.proofs.registers.clashes.Goals as goal
 
 pub returns-then-serves : goal.returns-then-serves

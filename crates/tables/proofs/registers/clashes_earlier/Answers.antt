@@ -1,11 +1,7 @@
 -- `tables::registers::clashes_earlier` meets its contract: the loop invariant says that what is gathered so far is the
 -- definition at the counter.
 use Rattle.tables.proofs.Laws.{some-none, finds, found}
-use Rattle.tables.specs.Every.{some}
-use Rattle.tables.specs.Tables.{register_part_of}
-use Rattle.tables.specs.Rules.{clashes_at}
-use mathlib.Core.Path.{◌≡◌, sym}
-use Prim.Native.Nat.{◌≤◌, ◌-◌}
+use mathlib.Core.Path.{sym}
 use native.Mathlib.Omega.{arith}
 use borrow.Author.Rules.{rules}
 use Rattle.tables.proofs.registers.clashes_earlier.Goals as goal

@@ -1,13 +1,10 @@
 -- `tables::registers::clashes_earlier` meets its contract: the loop invariant says that what is gathered so far is the
 -- definition at the counter.
-use Rattle.tables.proofs.Laws.{some-none, finds, found}
 use Rattle.tables.specs.Every.{some}
 use Rattle.tables.specs.Tables.{register_part_of}
 use Rattle.tables.specs.Rules.{clashes_at}
-use mathlib.Core.Path.{◌≡◌, sym}
+use mathlib.Core.Path.{◌≡◌}
 use Prim.Native.Nat.{◌≤◌, ◌-◌}
-use native.Mathlib.Omega.{arith}
-use borrow.Author.Rules.{rules}
 use Rattle.tables.proofs.registers.clashes_earlier.Given as goal
 
 abbrev pub invariant-loop-j : goal.invariant-loop-j

@@ -1,6 +1,5 @@
 -- `tables::registers::fault_by` meets its contract: the answer is rewritten with what the calls promise.
 use Rattle.tables.specs.Scan.{fault_by}
-use borrow.Author.Rules.{rules}
 use Rattle.tables.proofs.registers.fault_by.Goals as goal
 
 pub returns : goal.returns

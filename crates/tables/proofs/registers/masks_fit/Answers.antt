@@ -1,5 +1,4 @@
 -- `tables::registers::masks_fit` meets its contract: the answer is rewritten with what the calls promise.
-use borrow.Author.Rules.{rules}
 use Rattle.tables.proofs.registers.masks_fit.Goals as goal
 
 pub returns : goal.returns

@@ -1,7 +1,6 @@
 -- `tables::registers::part_placed` meets its contract: the answer is rewritten with what the calls promise.
 use Rattle.logic.proofs.Tests.{cond-or}
 use Rattle.tables.specs.Rules.{placed}
-use borrow.Author.Rules.{rules}
 use Rattle.tables.proofs.registers.part_placed.Goals as goal
 
 pub returns : goal.returns

@@ -1,7 +1,6 @@
 use Rattle.tables.proofs.ApartLaws.{place-told}
 use Rattle.tables.specs.Rules.{place_taken}
 use Rattle.tables.proofs.Laws.{reads-eq, reads-ne}
-use borrow.Author.Rules.{rules}
 use Rattle.tables.proofs.registers.place_taken.Goals as goal
 
 pub returns-then-word-eq1 : goal.returns-then-word-eq1

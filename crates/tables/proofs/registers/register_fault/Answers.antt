@@ -1,5 +1,4 @@
 -- `tables::registers::register_fault` meets its contract: the rules of a register, with what was found of its places.
-use borrow.Author.Rules.{rules}
 use Rattle.tables.proofs.SlotLaws.{fault-told}
 use Rattle.tables.proofs.registers.register_fault.Goals as goal
 

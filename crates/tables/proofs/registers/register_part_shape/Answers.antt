@@ -1,7 +1,6 @@
 -- `tables::registers::register_part_shape` meets its contract: the answer is rewritten with what the calls promise.
 use Rattle.tables.specs.Rules.{register_part_shape}
 use Rattle.tables.proofs.Laws.{reads-eq, reads-ne}
-use borrow.Author.Rules.{rules}
 use Rattle.tables.proofs.registers.register_part_shape.Goals as goal
 
 pub returns-then-word-eq1 : goal.returns-then-word-eq1

@@ -1,7 +1,6 @@
 -- `tables::registers::serves` meets its contract: the offset decides, or all three are compared.
 use mathlib.Core.Bool.{and-true, and-false}
 use Rattle.tables.proofs.Laws.{reads-eq, reads-ne}
-use borrow.Author.Rules.{rules}
 use Rattle.tables.proofs.registers.serves.Goals as goal
 
 pub returns-then-word-offset : goal.returns-then-word-offset

@@ -3,7 +3,6 @@ use Rattle.tables.specs.Tables.{register_part_in}
 use Rattle.tables.proofs.ApartLaws.{told_apart-bit}
 use mathlib.Core.Path.{subst}
 use Prim.Native.Nat.{ℕ, ◌<◌, ◌^◌}
-use borrow.Author.Rules.{rules}
 use Rattle.tables.proofs.registers.told_apart.Goals as goal
 
 pub returns : goal.returns

@@ -1,6 +1,5 @@
 -- `tables::registers::width_kept` meets its contract: the answer is rewritten with what the calls promise.
 use Rattle.tables.specs.Rules.{width_kept}
-use borrow.Author.Rules.{rules}
 use Rattle.tables.proofs.registers.width_kept.Goals as goal
 
 pub returns : goal.returns

@@ -1,16 +1,13 @@
 -- `tables::scan::dots_inside` meets its contract: the loop invariant says that what is gathered so far is the
 -- definition at the counter.
-use Rattle.tables.proofs.Laws.{every-none, gathers, gathered}
 use Rattle.bits.specs.Bits.{bit}
 use Rattle.tables.specs.Every.{every}
 use Rattle.tables.specs.Scan.{at_once}
 use lib.Dec.{eqb}
 use lib.ListN.{get_or}
-use mathlib.Core.Bool.{not, ◌||◌, Bool}
-use mathlib.Core.Path.{◌≡◌, sym, ap}
+use mathlib.Core.Bool.{not, ◌||◌}
+use mathlib.Core.Path.{◌≡◌}
 use Prim.Native.Nat.{◌≤◌, ◌-◌, ◌+◌}
-use native.Mathlib.Omega.{arith}
-use borrow.Author.Rules.{rules}
 use Rattle.tables.proofs.scan.dots_inside.Given as goal
 
 abbrev pub invariant-loop-b : goal.invariant-loop-b

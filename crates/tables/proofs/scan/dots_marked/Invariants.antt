@@ -1,7 +1,5 @@
 -- `tables::scan::dots_marked` meets its contract: what is gathered so far is the definition at the counter, and behind
 -- the last dot nothing is asked.
-use Rattle.tables.proofs.Laws.{every-none}
-use Rattle.tables.proofs.RunLaws.{bits_left, dots-end, dots-more}
 use Rattle.bits.specs.Bits.{bit}
 use Rattle.bits.specs.Widths.{widest}
 use Rattle.tables.specs.Every.{every}
@@ -9,10 +7,8 @@ use Rattle.tables.specs.Scan.{at_once}
 use lib.Dec.{eqb}
 use lib.ListN.{get_or}
 use mathlib.Core.Bool.{not, ◌||◌}
-use mathlib.Core.Path.{◌≡◌, sym}
+use mathlib.Core.Path.{◌≡◌}
 use Prim.Native.Nat.{◌≤◌, ◌-◌, ◌+◌}
-use native.Mathlib.Omega.{arith}
-use borrow.Author.Rules.{rules}
 use Rattle.tables.proofs.scan.dots_marked.Given as goal
 
 abbrev pub invariant-loop-b : goal.invariant-loop-b

@@ -1,6 +1,5 @@
 -- `tables::scan::register_covered` meets its contract: the answer is rewritten with what the calls promise.
 use Rattle.tables.specs.Scan.{covered_by}
-use borrow.Author.Rules.{rules}
 use Rattle.tables.proofs.scan.register_covered.Goals as goal
 
 pub returns : goal.returns

@@ -1,12 +1,9 @@
 -- `tables::scan::uncovered` meets its contract: the loop invariant says that nothing was found so far.
-use Rattle.tables.proofs.Laws.{not-both, first-none, first_more, first-stop, first-end}
 use Rattle.tables.specs.Every.{first_of}
 use Rattle.tables.specs.Scan.{covered_by}
 use mathlib.Core.Bool.{not, ◌&&◌}
 use mathlib.Core.Path.{◌≡◌}
 use Prim.Native.Nat.{◌≤◌, ◌-◌}
-use native.Mathlib.Omega.{arith}
-use borrow.Author.Rules.{rules}
 use Rattle.tables.proofs.scan.uncovered.Given as goal
 
 abbrev pub invariant-loop-i : goal.invariant-loop-i

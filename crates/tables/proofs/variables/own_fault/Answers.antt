@@ -1,6 +1,5 @@
 -- `tables::variables::own_fault` meets its contract: the answer is rewritten with what the calls promise.
 use Rattle.tables.specs.Rules.{own_fault}
-use borrow.Author.Rules.{rules}
 use Rattle.tables.proofs.variables.own_fault.Goals as goal
 
 pub returns : goal.returns

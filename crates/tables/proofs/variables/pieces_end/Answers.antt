@@ -1,5 +1,4 @@
 -- `tables::variables::pieces_end` meets its contract: either run is the one that is asked for.
-use borrow.Author.Rules.{rules}
 use Rattle.tables.proofs.variables.pieces_end.Goals as goal
 
 pub returns-then-n-eq1 : goal.returns-then-n-eq1

@@ -1,6 +1,5 @@
 -- `tables::variables::type_fits` meets its contract: the answer is rewritten with what the calls promise.
 use Rattle.tables.specs.Rules.{type_fits}
-use borrow.Author.Rules.{rules}
 use Rattle.tables.proofs.variables.type_fits.Goals as goal
 
 pub returns : goal.returns

@@ -2,7 +2,6 @@
 use Rattle.tables.specs.Rules.{variable_part_shape}
 use borrow.Author.Tests.{le-leb}
 use Rattle.tables.proofs.Laws.{reads-eq, reads-ne, reads_over}
-use borrow.Author.Rules.{rules}
 use Rattle.tables.proofs.variables.variable_part_shape.Goals as goal
 
 pub returns-then-n-gt8 : goal.returns-then-n-gt8

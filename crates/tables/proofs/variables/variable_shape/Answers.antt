@@ -1,6 +1,5 @@
 -- `tables::variables::variable_shape` meets its contract: the answer is rewritten with what the calls promise.
 use Rattle.tables.specs.Rules.{variable_shape}
-use borrow.Author.Rules.{rules}
 use Rattle.tables.proofs.variables.variable_shape.Goals as goal
 
 pub returns : goal.returns

@@ -1,7 +1,6 @@
 -- `tables::variables::width_fits` meets its contract: the part is absent, or its bits are those counted.
 use Rattle.tables.specs.Rules.{width_fits}
 use Rattle.tables.proofs.Laws.{reads-eq, reads-ne}
-use borrow.Author.Rules.{rules}
 use Rattle.tables.proofs.variables.width_fits.Goals as goal
 
 pub returns-then-word-eq1 : goal.returns-then-word-eq1

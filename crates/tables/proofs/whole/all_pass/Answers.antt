@@ -1,10 +1,7 @@
 -- `tables::whole::all_pass` meets its contract: the loop invariant says that what is gathered so far is the definition
 -- at the counter.
 use Rattle.tables.proofs.Laws.{every-none, gathers, gathered}
-use Rattle.tables.specs.Every.{every}
-use Rattle.tables.specs.Scan.{passes_test}
-use mathlib.Core.Path.{◌≡◌, sym}
-use Prim.Native.Nat.{◌≤◌, ◌-◌}
+use mathlib.Core.Path.{sym}
 use native.Mathlib.Omega.{arith}
 use borrow.Author.Rules.{rules}
 use Rattle.tables.proofs.whole.all_pass.Goals as goal

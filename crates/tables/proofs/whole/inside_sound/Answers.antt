@@ -2,7 +2,6 @@
 -- rest.
 use Rattle.tables.proofs.Laws.{guard-taken, guard-left}
 use mathlib.Core.Path.{refl}
-use borrow.Author.Rules.{rules}
 use Rattle.tables.proofs.whole.inside_sound.Goals as goal
 
 pub returns-then-shaped : goal.returns-then-shaped

@@ -1,6 +1,5 @@
 -- `tables::whole::passes` meets its contract: in each arm the test is the one that the arm names.
 use Rattle.tables.specs.Scan.{passes_test}
-use borrow.Author.Rules.{rules}
 use Rattle.tables.proofs.whole.passes.Goals as goal
 
 pub returns-in-ParameterShape : goal.returns-in-ParameterShape

@@ -1,6 +1,5 @@
 -- `tables::whole::rest_blank` meets its contract: the answer is rewritten with what the calls promise.
 use Rattle.tables.specs.Sound.{rest_zero}
-use borrow.Author.Rules.{rules}
 use Rattle.tables.proofs.whole.rest_blank.Goals as goal
 
 pub returns : goal.returns

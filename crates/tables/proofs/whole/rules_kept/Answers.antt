@@ -1,7 +1,6 @@
 -- `tables::whole::rules_kept` meets its contract: the answer is rewritten with what the calls promise.
 use Rattle.tables.specs.Scan.{passes_test}
 use Rattle.tables.proofs.SoundLaws.{rules-say}
-use borrow.Author.Rules.{rules}
 use Rattle.tables.proofs.whole.rules_kept.Goals as goal
 
 pub returns : goal.returns

@@ -1,7 +1,6 @@
 -- `tables::whole::shaped` meets its contract: the answer is rewritten with what the calls promise.
 use Rattle.tables.specs.Sound.{shapes_fit}
 use Rattle.tables.specs.Scan.{passes_test}
-use borrow.Author.Rules.{rules}
 use Rattle.tables.proofs.whole.shaped.Goals as goal
 
 pub returns : goal.returns

@@ -3,7 +3,6 @@ use Rattle.tables.specs.Sound.{sound}
 use Rattle.tables.proofs.SoundLaws.{counts}
 use Rattle.tables.proofs.Laws.{guard-taken, guard-left}
 use mathlib.Core.Path.{refl, sym, ◌∙◌}
-use borrow.Author.Rules.{rules}
 use Rattle.tables.proofs.whole.sound.Goals as goal
 
 pub inside_sound-requires : goal.inside_sound-requires

@@ -1,6 +1,5 @@
 -- `tables::whole::tables_fit` meets its contract: the answer is rewritten with what the calls promise.
 use Rattle.tables.specs.Sound.{tables_fit}
-use borrow.Author.Rules.{rules}
 use Rattle.tables.proofs.whole.tables_fit.Goals as goal
 
 pub returns : goal.returns

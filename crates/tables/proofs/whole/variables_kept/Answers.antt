@@ -2,17 +2,11 @@
 -- passed, and that these keep their rules.
 use Rattle.tables.proofs.SoundLaws.{kept-ends, kept-stops, mapped-more, mapped-none, own-none}
 use Rattle.tables.proofs.Laws.{every-none, gathers, reads-eq}
-use Rattle.tables.specs.Every.{every}
-use Rattle.tables.specs.Rules.{variable_fault}
-use Rattle.tables.specs.Scan.{Mapped}
-use lib.Dec.{eqb}
-use lib.ListN.{length, length-replicate}
-use mathlib.Core.Bool.{true}
-use mathlib.Core.Path.{◌≡◌, sym, ◌∙◌}
-use Prim.Native.Nat.{ℕ, ◌≤◌, ◌-◌}
+use lib.ListN.{length-replicate}
+use mathlib.Core.Path.{sym, ◌∙◌}
+use Prim.Native.Nat.{ℕ}
 use native.Mathlib.Omega.{arith}
 use borrow.Author.Rules.{rules}
-use Rattle.tables.proofs.whole.variables_kept.Reads as reads
 use Rattle.tables.proofs.whole.variables_kept.Goals as goal
 
 pub loop-v-init : goal.loop-v-init
@@ -20,17 +14,16 @@ loop-v-init c = (search rules, length-replicate {A = ℕ} 4096 0, length-replica
 
 pub variable_fault-requires : goal.variable_fault-requires
 variable_fault-requires c = record {
-    v_bound = search rules;
-    registers_bound = search rules;
-    mapped = c.loop-v.invariant.3
-    }
+  v_bound = search rules;
+  registers_bound = search rules;
+  mapped = c.loop-v.invariant.3;
+}
 
 pub returns-then-variable_fault-ne0 : goal.returns-then-variable_fault-ne0
 returns-then-variable_fault-ne0 c = kept-stops c.args.registers.now c.args.variables.now c.loop-v-test.true c.word-n.ensures.is c.variable_fault.ensures c.if-variable_fault-ne0.true
 
 pub loop-v-preserved : goal.loop-v-preserved
 loop-v-preserved c =
-    
     let l = c.loop-v in
     let rs = c.args.registers.now in
     let vs = c.args.variables.now in (
@@ -43,5 +36,4 @@ loop-v-preserved c =
 
 pub returns : goal.returns
 returns c =
-    
     kept-ends c.args.registers.now c.args.variables.now c.requires.registers_bound c.loop-v.invariant.0 c.loop-v-test.false c.word-n.ensures.is c.loop-v.invariant.3 c.loop-v.invariant.4 c.uncovered.ensures c.word.ensures.is

@@ -1,18 +1,13 @@
 -- `tables::whole::variables_kept` meets its contract: the loop invariant says that the maps are those of the variables
 -- passed, and that these keep their rules.
-use Rattle.tables.proofs.SoundLaws.{kept-ends, kept-stops, mapped-more, mapped-none, own-none}
-use Rattle.tables.proofs.Laws.{every-none, gathers, reads-eq}
 use Rattle.tables.specs.Every.{every}
 use Rattle.tables.specs.Rules.{variable_fault}
 use Rattle.tables.specs.Scan.{Mapped}
 use lib.Dec.{eqb}
-use lib.ListN.{length, length-replicate}
+use lib.ListN.{length}
 use mathlib.Core.Bool.{true}
-use mathlib.Core.Path.{◌≡◌, sym, ◌∙◌}
-use Prim.Native.Nat.{ℕ, ◌≤◌, ◌-◌}
-use native.Mathlib.Omega.{arith}
-use borrow.Author.Rules.{rules}
-use Rattle.tables.proofs.whole.variables_kept.Reads as reads
+use mathlib.Core.Path.{◌≡◌}
+use Prim.Native.Nat.{◌≤◌, ◌-◌}
 use Rattle.tables.proofs.whole.variables_kept.Given as goal
 
 abbrev pub invariant-loop-v : goal.invariant-loop-v

@@ -1,8 +1,6 @@
 -- `tables::words::all_zero` meets its contract: what is gathered so far is the definition at the counter.
 use native.Mathlib.Omega.{arith}
-use Prim.Native.Nat.{◌≤◌, ◌-◌, ◌+◌}
-use mathlib.Core.Path.{◌≡◌, refl, sym, ◌∙◌}
-use Rattle.tables.specs.Every.{every}
+use mathlib.Core.Path.{refl, sym, ◌∙◌}
 use Rattle.tables.proofs.ZeroLaws.{zeros-every}
 use Rattle.tables.proofs.Laws.{every-none, gathers, gathered}
 use Rattle.tables.proofs.words.all_zero.Goals as goal

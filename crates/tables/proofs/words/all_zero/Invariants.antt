@@ -1,12 +1,9 @@
 -- `tables::words::all_zero` meets its contract: what is gathered so far is the definition at the counter.
-use native.Mathlib.Omega.{arith}
 use Prim.Native.Nat.{◌≤◌, ◌-◌, ◌+◌}
-use lib.ListN.{get_or, length}
+use lib.ListN.{get_or}
 use lib.Dec.{eqb}
-use mathlib.Core.Path.{◌≡◌, refl, sym, ◌∙◌}
+use mathlib.Core.Path.{◌≡◌}
 use Rattle.tables.specs.Every.{every}
-use Rattle.tables.proofs.ZeroLaws.{zeros-every}
-use Rattle.tables.proofs.Laws.{every-none, gathers, gathered}
 use Rattle.tables.proofs.words.all_zero.Given as goal
 
 abbrev pub invariant-loop-k : goal.invariant-loop-k

@@ -2,7 +2,6 @@
 use Rattle.tables.proofs.ZeroLaws.{zeros-outside, zeros-left}
 use native.Mathlib.Omega.{arith}
 use mathlib.Core.Path.{refl}
-use borrow.Author.Rules.{rules}
 use Rattle.tables.proofs.words.blank.Goals as goal
 
 pub returns-then-length-from : goal.returns-then-length-from
