@@ -6,7 +6,6 @@ use borrow.Author.Rules.{rules}
 use Rattle.station.specs.Standing.{tables_of}
 use Rattle.station.specs.Station.{begin_fault}
 use Rattle.station.proofs.Laws.{no_fault_lem, comes-first, next-decides}
-use Rattle.logic.proofs.Tests.{failed, passed}
 use Rattle.station.proofs.begin.begin_fault.Goals as goal
 
 pub returns-then-number-ne0 : goal.returns-then-number-ne0
@@ -30,8 +29,8 @@ has_part-requires c =
 
 pub returns-then-not-has_part : goal.returns-then-not-has_part
 unfolding begin_fault
-returns-then-not-has_part c = sym (next-decides _ c.fault-number.ensures c.if-number-ne0.false ∙ rw (sym c.is_busy.ensures ∙ c.if-is_busy.false, rw c.word.ensures.is at (lt-ltb _ _ c.if-word-v.false), failed c.has_part.ensures c.if-not-has_part.true))
+returns-then-not-has_part c = sym (next-decides _ c.fault-number.ensures c.if-number-ne0.false ∙ rw (sym c.is_busy.ensures ∙ c.if-is_busy.false, rw c.word.ensures.is at (lt-ltb _ _ c.if-word-v.false), sym c.has_part.ensures ∙ c.if-not-has_part.true))
 
 pub returns : goal.returns
 unfolding begin_fault
-returns c = sym (next-decides _ c.fault-number.ensures c.if-number-ne0.false ∙ rw (sym c.is_busy.ensures ∙ c.if-is_busy.false, rw c.word.ensures.is at (lt-ltb _ _ c.if-word-v.false), passed c.has_part.ensures c.if-not-has_part.false))
+returns c = sym (next-decides _ c.fault-number.ensures c.if-number-ne0.false ∙ rw (sym c.is_busy.ensures ∙ c.if-is_busy.false, rw c.word.ensures.is at (lt-ltb _ _ c.if-word-v.false), sym c.has_part.ensures ∙ c.if-not-has_part.false))

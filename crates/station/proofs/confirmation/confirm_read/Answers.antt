@@ -4,7 +4,6 @@ use native.Mathlib.Omega.{arith}
 use borrow.Author.Rules.{rules}
 use Rattle.station.specs.Station.{next_read}
 use Rattle.station.proofs.CallLaws.{few-steps, gathered-fits, read-goes_on, read-contradicts}
-use Rattle.logic.proofs.Tests.{failed, passed}
 use Rattle.station.proofs.confirmation.confirm_read.Goals as goal
 
 pub fits_mask-requires : goal.fits_mask-requires
@@ -15,7 +14,7 @@ fits_mask-requires c =
 pub returns-then-not-fits_mask : goal.returns-then-not-fits_mask
 returns-then-not-fits_mask c =
     c.contradict.ensures
-    ∙ sym (read-contradicts _ _ _ _ _ _ _ c.register_of-register.ensures (failed c.fits_mask.ensures c.if-not-fits_mask.true))
+    ∙ sym (read-contradicts _ _ _ _ _ _ _ c.register_of-register.ensures (sym c.fits_mask.ensures ∙ c.if-not-fits_mask.true))
 
 pub overflow_add-next : goal.overflow_add-next
 overflow_add-next c =
@@ -35,4 +34,4 @@ pub returns : goal.returns
 returns c =
     c.next_read.ensures
     ∙ ap (next_read _ _ _ _) c.gather_byte-value.ensures
-    ∙ sym (read-goes_on _ _ _ _ _ _ _ c.register_of-register.ensures (passed c.fits_mask.ensures c.if-not-fits_mask.false))
+    ∙ sym (read-goes_on _ _ _ _ _ _ _ c.register_of-register.ensures (sym c.fits_mask.ensures ∙ c.if-not-fits_mask.false))

@@ -10,7 +10,12 @@ overflow_add-next c = omega (arith, few-steps c.requires.ready c.requires.step_b
 pub next_write-requires : goal.next_write-requires
 next_write-requires c =
     let p = c.requires in
-    (p.ready, (omega (arith, p.step_bound), p.1.1.1))
+    record {
+    ready = p.ready;
+    step_bound = omega (arith, p.step_bound);
+    v_in_bounds = p.v_in_bounds;
+    value_bound = p.value_bound
+    }
 
 pub returns : goal.returns
 returns c = leaves-as (write-recorded _ _ _ _ _ _ _ c.record_byte.ensures) c.next_write.ensures

@@ -1,10 +1,10 @@
 -- `station::standing::is_due` meets its contract.
-use mathlib.Core.Path.{sym}
+use mathlib.Core.Path.{sym, ◌∙◌}
 use native.Mathlib.Omega.{arith}
 use borrow.Author.Tests.{lt-ltb, le-ltb}
 use borrow.Author.Rules.{rules}
 use Rattle.station.specs.Standing.{due}
-use Rattle.logic.proofs.Tests.{failed, passed, first-fails, second-fails, third-decides}
+use Rattle.logic.proofs.Tests.{first-fails, second-fails, third-decides}
 use Rattle.station.proofs.standing.is_due.Goals as goal
 
 pub returns-then-word-v : goal.returns-then-word-v
@@ -16,7 +16,7 @@ has_part-requires c = (omega (arith, c.word.ensures.is, c.requires.sound.few), c
 
 pub returns-then-not-has_part : goal.returns-then-not-has_part
 unfolding due
-returns-then-not-has_part c = sym (second-fails _ (rw c.word.ensures.is at (lt-ltb _ _ c.if-word-v.false)) (failed c.has_part.ensures c.if-not-has_part.true))
+returns-then-not-has_part c = sym (second-fails _ (rw c.word.ensures.is at (lt-ltb _ _ c.if-word-v.false)) (sym c.has_part.ensures ∙ c.if-not-has_part.true))
 
 pub access_count-requires : goal.access_count-requires
 access_count-requires c =
@@ -30,4 +30,4 @@ access_count-requires c =
 
 pub returns : goal.returns
 unfolding due
-returns c = rw c.access_count.ensures (sym (third-decides _ (rw c.word.ensures.is at (lt-ltb _ _ c.if-word-v.false)) (passed c.has_part.ensures c.if-not-has_part.false)))
+returns c = rw c.access_count.ensures (sym (third-decides _ (rw c.word.ensures.is at (lt-ltb _ _ c.if-word-v.false)) (sym c.has_part.ensures ∙ c.if-not-has_part.false)))
