@@ -26,12 +26,12 @@ fn stands_for_many(path: &str) -> bool {
 /// What a name in backquotes looks like, and so what it has to be.
 #[derive(Clone, Copy, Debug, PartialEq, Eq, PartialOrd, Ord)]
 pub enum Looks {
-    /// `demand-3`, `writtenByte`, `.in-width`: a definition, a law or a field.
+    /// `demand-3`, `told_apart-bit`, `.in-width`: a definition, a law or a field.
     Definition,
     /// `GoesByPlan`: a definition, or a type of Rattle or Rust.
     Type,
-    /// `begin_read`: a function or a constant.
-    Function,
+    /// `written_byte`, `begin_read`: a definition, a law or a field; or a function or a constant.
+    Snake,
 }
 
 /// The names in a text: what stands between two backquotes and is one word, or a word with fields as `Keeps .ended`.
@@ -57,8 +57,8 @@ fn looks(word: &str) -> Option<Looks> {
     let hump = word.chars().skip(1).any(|c| c.is_ascii_uppercase());
     let tail = word.chars().any(|c| c.is_ascii_lowercase());
     if all("_") && low && word.contains('_') {
-        Some(Looks::Function)
-    } else if all("-") && low && (word.contains('-') || hump) {
+        Some(Looks::Snake)
+    } else if all("-_") && low && (word.contains('-') || hump) {
         Some(Looks::Definition)
     } else if all("") && !low && hump && tail {
         Some(Looks::Type)
@@ -84,11 +84,30 @@ pub fn defined(text: &str) -> Vec<String> {
 
 /// The names that a file takes from the kit's libraries.
 pub fn taken(text: &str) -> Vec<String> {
-    let uses = text.lines().filter(|l| l.starts_with("use "));
-    let kits = uses.filter(|l| !l.starts_with("use Rattle·"));
-    let lists = kits.filter_map(|l| l.split_once(".{")?.1.strip_suffix('}'));
-    let names = lists.flat_map(|list| list.split(", "));
-    names.map(String::from).collect()
+    let kits = imports(text).into_iter().filter(|(from, _)| !is_own(from));
+    kits.map(|(_, name)| name).collect()
+}
+
+/// The names that a file takes from elsewhere, each with the module that it is taken from.
+pub fn imports(text: &str) -> Vec<(String, String)> {
+    let uses = text.lines().filter_map(|l| l.strip_prefix("use "));
+    let lists = uses.filter_map(|l| {
+        let (from, names) = l.split_once(".{")?;
+        Some((from, names.strip_suffix('}')?))
+    });
+    let each = lists.flat_map(|(from, names)| names.split(", ").map(move |name| (from, name)));
+    each.map(|(from, name)| (from.to_string(), name.to_string()))
+        .collect()
+}
+
+/// Is this module of a crate here? The library std has paths of the same form.
+fn is_own(module: &str) -> bool {
+    module.starts_with("Rattle.") && !module.starts_with("Rattle.std.")
+}
+
+/// Is this module of the specifications of a crate here?
+pub fn is_own_spec(module: &str) -> bool {
+    is_own(module) && module.split('.').nth(2) == Some("specs")
 }
 
 fn is_modifier(word: &str) -> bool {
@@ -102,7 +121,7 @@ mod tests {
     #[test]
     fn paths_and_names_are_found() {
         let text = "See crates/bits/specs/Bits.antt, (docs/CLAIMS.md) and crates/NAME/src: `demand-3` of `x`, not \
-            `a b-c`, and `Keeps .read-confirmed`, `bitsOf`, `begin_read`, `GoesByPlan`, `NAME`.";
+            `a b-c`, and `Keeps .read-confirmed`, `told_apart-bit`, `bitsOf`, `begin_read`, `GoesByPlan`, `NAME`.";
         assert_eq!(
             paths(text),
             ["crates/bits/specs/Bits.antt", "docs/CLAIMS.md"]
@@ -114,17 +133,17 @@ mod tests {
         };
         assert_eq!(
             named(Looks::Definition),
-            ["demand-3", "read-confirmed", "bitsOf"]
+            ["demand-3", "read-confirmed", "told_apart-bit", "bitsOf"]
         );
-        assert_eq!(named(Looks::Function), ["begin_read"]);
+        assert_eq!(named(Looks::Snake), ["begin_read"]);
         assert_eq!(named(Looks::Type), ["GoesByPlan"]);
     }
 
     #[test]
     fn definitions_are_told_from_what_only_names_them() {
-        let text = "-- of bitsOf\nunfoldable pub isWidth : N\nisWidth w = widest w\n\npub record Keeps (t : T) where\n  ended : t\n";
-        assert_eq!(defined(text), ["isWidth", "Keeps", "ended"]);
-        let text = "use lib.Div.{quotZ, remZ}\nuse Rattle·bits.specs.Bits.{bit}\n";
-        assert_eq!(taken(text), ["quotZ", "remZ"]);
+        let text = "-- of bits_of\nunfoldable pub is_width : N\nis_width w = widest w\n\npub record Keeps (t : T) where\n  ended : t\n";
+        assert_eq!(defined(text), ["is_width", "Keeps", "ended"]);
+        let text = "use lib.Div.{quot_z, rem_z}\nuse Rattle.bits.specs.Bits.{bit}\nuse Rattle.std.specs.Num.{low}\n";
+        assert_eq!(taken(text), ["quot_z", "rem_z", "low"]);
     }
 }

@@ -25,7 +25,7 @@ pub fn functions(text: &str) -> Vec<Function> {
 
 fn named(line: &str) -> Option<String> {
     let mut words = line.trim_start();
-    for before in ["#[no_mangle] ", "pub ", "extern \"C\" "] {
+    for before in ["#[unsafe(no_mangle)] ", "pub ", "extern \"C\" "] {
         words = words.strip_prefix(before).unwrap_or(words);
     }
     let rest = words.strip_prefix("fn ")?;

@@ -1,6 +1,8 @@
 //! What the proofs argue: the laws of a file, and the clauses of a function's proof.
 
+use crate::documents::{imports, is_own_spec};
 use crate::shape::shape;
+use std::collections::HashSet;
 
 /// A law, or what a function's proof argues.
 pub struct Argument {
@@ -45,10 +47,11 @@ fn is_law(block: &[&str]) -> bool {
     !defined
 }
 
-/// What a function's proof argues itself: its clauses, but for those that the checker finds, that hold by facts at
-/// hand, or that cite a law on such facts.
+/// What a function's proof argues itself, in Answers.antt: its clauses, but for those that the checker finds, that hold
+/// by facts at hand, or that cite a law on such facts.
 pub fn argued(name: &str, text: &str) -> Argument {
-    let own = clauses(text).into_iter().filter(|c| argues(c));
+    let laws = cited(text);
+    let own = clauses(text).into_iter().filter(|c| argues(c, &laws));
     let own: Vec<String> = own.map(|c| shape(&c)).collect();
     Argument {
         name: name.to_string(),
@@ -57,8 +60,20 @@ pub fn argued(name: &str, text: &str) -> Argument {
     }
 }
 
-/// The clauses `need facts = argument` of a function's proof, each on a line; not its invariants, which are statements,
-/// nor the last line, which lists the needs.
+/// The laws that a function's proof may cite: what it takes from another place than the specifications of a crate here,
+/// and what it states itself.
+fn cited(text: &str) -> HashSet<String> {
+    let taken = imports(text)
+        .into_iter()
+        .filter(|(from, _)| !is_own_spec(from))
+        .map(|(_, name)| name);
+    let stated = text.lines().filter_map(|l| l.split_once(" : "));
+    let stated = stated.map(|(name, _)| name.trim_start_matches("pub ").to_string());
+    taken.chain(stated).collect()
+}
+
+/// The clauses `goal facts = argument` of a function's proof, each on a line; not a last line that lists the goals, as
+/// a proof that walks the code by hand has one.
 fn clauses(text: &str) -> Vec<String> {
     let mut found: Vec<String> = Vec::new();
     let mut open = false;
@@ -78,7 +93,7 @@ fn clauses(text: &str) -> Vec<String> {
 }
 
 fn is_clause(line: &str) -> bool {
-    let other = ["use ", "pub ", "abbrev ", "--", "Inv-", "μ-"];
+    let other = ["use ", "pub ", "abbrev ", "--"];
     let stated = line.contains(" : ") && !line.contains(" = ");
     let blank = line.trim().is_empty() || line.starts_with(' ');
     let listed = line.split(' ').next().unwrap().ends_with("-spec");
@@ -90,30 +105,30 @@ fn is_clause(line: &str) -> bool {
 }
 
 /// A clause that argues turns, joins or takes apart what it knows.
-fn argues(clause: &str) -> bool {
+fn argues(clause: &str, laws: &HashSet<String>) -> bool {
     let argument = clause.split_once(" =").unwrap().1.trim();
     let joins = ["∙", "λ"].iter().any(|s| argument.contains(s));
     let turns = ["rw", "simp", "sym", "ap", "ap₂", "subst", "let", "record"];
     let words = argument.split(|c: char| c.is_whitespace() || "(),".contains(c));
     let turned = words.into_iter().any(|w| turns.contains(&w));
-    (joins || turned) && !holds_by_facts(argument)
+    (joins || turned) && !holds_by_facts(argument, laws)
 }
 
-/// `rw (c .if1 .taken, ← c .word .ensures)`: the definition at what the branch and the calls tell.
-fn holds_by_facts(argument: &str) -> bool {
+/// `rw (c.if-on.true, ← c.word.ensures)`: the definition at what the branch and the calls tell.
+fn holds_by_facts(argument: &str, laws: &HashSet<String>) -> bool {
     let facts = argument
         .strip_prefix("rw (")
         .and_then(|a| a.strip_suffix(')'));
-    facts.is_some_and(|f| f.split(", ").all(is_fact))
+    facts.is_some_and(|f| f.split(", ").all(|it| is_fact(it, laws)))
 }
 
-/// A fact that is known at a place, as `c .if1 .taken`, or a definition's name.
-fn is_fact(argument: &str) -> bool {
+/// A fact that is known at a place, as `c.if-on.true`, or a definition's name.
+fn is_fact(argument: &str, laws: &HashSet<String>) -> bool {
     let plain = argument.trim_start_matches("← ");
-    let mut words = plain.split(' ');
-    let first = words.next().unwrap();
-    let name = first.chars().all(|c| c.is_alphanumeric());
-    name && words.all(|w| w.starts_with('.') && !w.contains(['(', ')']))
+    let (first, fields) = plain.split_once('.').unwrap_or((plain, ""));
+    let name = first.chars().all(|c| c.is_alphanumeric() || c == '_');
+    let law = fields.is_empty() && first.contains('_') && laws.contains(first);
+    name && !law && !fields.contains([' ', '(', ')'])
 }
 
 /// The groups of arguments of one shape, those of at least so many lines.
@@ -156,17 +171,31 @@ mod tests {
     #[test]
     fn what_is_found_or_cited_is_not_argued() {
         let lines = |clause: &str| argued("f", clause).lines;
-        assert_eq!(lines("add : tie.Need-add\nadd c = search needs\n"), 0);
-        assert_eq!(lines("Inv-loop i n = (i ≤ n) × (f ≡ g)\n"), 0);
+        assert_eq!(lines("pub add : goal.add\nadd c = search rules\n"), 0);
         assert_eq!(
-            lines("returns c = rw (c .if1 .taken, ← c .word .ensures)\n"),
+            lines("returns c = rw (c.if-on.true, ← c.word.ensures)\n"),
             0
         );
         assert_eq!(
-            lines("again c = law _ _ (c .loop .inv) (omega (arith, c .if1 .taken))\n"),
+            lines("again c = law _ _ c.loop-i.invariant (omega (arith, c.if-on.true))\n"),
             0
         );
-        assert_eq!(lines("returns c = rw (law (c .if1 .taken))\n"), 1);
-        assert_eq!(lines("returns c =\n    c .loop .inv ∙ law _\n"), 1);
+        assert_eq!(lines("returns c = rw (law c.if-on.true)\n"), 1);
+        assert_eq!(lines("returns c =\n    c.loop-i.invariant ∙ law _\n"), 1);
+    }
+
+    #[test]
+    fn a_definition_is_told_from_a_law() {
+        let lines = |from: &str| {
+            let text =
+                format!("use {from}.{{is_wide}}\n\nreturns c = rw (c.if-on.true, is_wide)\n");
+            argued("f", &text).lines
+        };
+        assert_eq!(lines("Rattle.bits.specs.Widths"), 0);
+        assert_eq!(lines("Rattle.bits.proofs.WidthLaws"), 1);
+        assert_eq!(lines("Rattle.std.specs.Num"), 1);
+        assert_eq!(lines("lib.Pow"), 1);
+        let own = "is_wide : IsTrue b\nis_wide = law\n\nreturns c = rw (c.if-on.true, is_wide)\n";
+        assert_eq!(argued("f", own).lines, 1);
     }
 }

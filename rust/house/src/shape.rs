@@ -1,9 +1,9 @@
 //! A text with every name and every number blotted out.
 
 /// The words that say how a proof goes; all others are names or numbers.
-const KEPT: [&str; 18] = [
-    "absurd", "ap", "arith", "cond", "elim", "false", "in", "let", "needs", "omega", "record",
-    "refl", "rw", "search", "simp", "sym", "true", "where",
+const KEPT: [&str; 19] = [
+    "absurd", "ap", "arith", "cond", "elim", "false", "grind", "in", "let", "omega", "record",
+    "refl", "rules", "rw", "search", "simp", "sym", "true", "where",
 ];
 
 /// The shape of a text: two texts have the same one exactly when they differ only in names and numbers, and in blanks.

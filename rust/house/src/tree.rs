@@ -13,12 +13,18 @@ pub fn root() -> PathBuf {
     Path::new(env!("CARGO_MANIFEST_DIR")).join("../..")
 }
 
-/// Every file below a folder of the repository whose name has the ending, in the order of their paths.
+/// Every file below a folder of the repository whose name has the ending, in the order of their paths. What `rt` keeps
+/// of a crate, in its folder out/, is none.
 pub fn below(folder: &str, ending: &str) -> Vec<File> {
     let mut files = Vec::new();
     gather(&root().join(folder), folder, ending, &mut files);
     files.sort_by(|a, b| a.path.cmp(&b.path));
     files
+}
+
+fn is_kept(path: &str) -> bool {
+    let of_crate = path.strip_prefix("crates/").and_then(|p| p.split_once('/'));
+    of_crate.is_some_and(|(_, inside)| inside == "out")
 }
 
 fn gather(at: &Path, path: &str, ending: &str, files: &mut Vec<File>) {
@@ -27,10 +33,26 @@ fn gather(at: &Path, path: &str, ending: &str, files: &mut Vec<File>) {
         let name = entry.file_name().into_string().unwrap();
         let path = format!("{path}/{name}");
         if entry.file_type().unwrap().is_dir() {
+            if is_kept(&path) {
+                continue;
+            }
             gather(&entry.path(), &path, ending, files);
         } else if name.ends_with(ending) {
             let text = fs::read_to_string(entry.path()).unwrap();
             files.push(File { path, text });
         }
+    }
+}
+
+#[cfg(test)]
+mod tests {
+    use super::is_kept;
+
+    #[test]
+    fn what_rt_keeps_is_left_out() {
+        assert!(is_kept("crates/bits/out"));
+        assert!(!is_kept("crates/bits/src"));
+        assert!(!is_kept("crates/bits/proofs/out"));
+        assert!(!is_kept("rust/out"));
     }
 }

@@ -39,17 +39,17 @@ fn every_path_is_there() {
     assert!(lost.is_empty(), "not there:\n{}", lost.join("\n"));
 }
 
-/// Every word of the sources, as names are written in them.
-fn words() -> HashSet<String> {
+/// Every word of the code, and of what it is held to by definitions where `antt` says so, as names are written there.
+fn words(antt: bool) -> HashSet<String> {
     let mut words = HashSet::new();
-    for (folder, ending) in [
-        ("crates", ".antt"),
+    let definitions = antt.then_some(("crates", ".antt"));
+    for (folder, ending) in definitions.into_iter().chain([
         ("crates", ".rt"),
         ("crates", ".edit"),
         ("rust", ".rs"),
         ("include", ".h"),
         ("rust", ".toml"),
-    ] {
+    ]) {
         for file in below(folder, ending) {
             let name = file.path.rsplit('/').next().unwrap();
             words.insert(name.split('.').next().unwrap().to_string());
@@ -70,11 +70,11 @@ fn definitions() -> HashSet<String> {
     names
 }
 
-/// A definition, a law or a field that a document names is defined in crates/, or the kit's; a type or a function is at
-/// least a word of the sources.
+/// A definition, a law or a field that a document names is defined in crates/, or the kit's; a type is at least a word
+/// of the sources, and a function of the code.
 #[test]
 fn every_name_is_there() {
-    let words = words();
+    let (words, code) = (words(true), words(false));
     let definitions = definitions();
     let mut lost = Vec::new();
     let mut read = 0;
@@ -83,7 +83,8 @@ fn every_name_is_there() {
             read += 1;
             let there = match looks {
                 Looks::Definition => definitions.contains(&name),
-                Looks::Type | Looks::Function => words.contains(&name),
+                Looks::Snake => definitions.contains(&name) || code.contains(&name),
+                Looks::Type => words.contains(&name),
             };
             if !there {
                 lost.push(format!("{}: {name}", document.path));

@@ -8,12 +8,19 @@ const LEAST_LAW: usize = 3;
 /// So is what a function's proof argues itself, where that is so many clauses or more.
 const LEAST_CLAUSES: usize = 2;
 
+/// Is this what a function's proof answers to its goals, or a whole proof of a function that walks it by hand?
 fn is_function(file: &File) -> bool {
-    file.path.ends_with("/Proof.antt")
+    ["/Answers.antt", "/Proof.antt"]
+        .iter()
+        .any(|name| file.path.ends_with(name))
 }
 
+/// Laws are in all other files of proofs/ but for the statements of loops and the lists of modules.
 fn is_law(file: &File) -> bool {
-    file.path.contains("/proofs/") && !is_function(file) && !file.path.ends_with("/Lib.antt")
+    let other = ["/Invariants.antt", "/Lib.antt"];
+    file.path.contains("/proofs/")
+        && !is_function(file)
+        && !other.iter().any(|name| file.path.ends_with(name))
 }
 
 fn none_alike(what: &str, arguments: &[Argument], least: usize) {
