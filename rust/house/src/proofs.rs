@@ -114,12 +114,14 @@ fn argues(clause: &str, laws: &HashSet<String>) -> bool {
     (joins || turned) && !holds_by_facts(argument, laws)
 }
 
-/// `rw (c.if-on.true, ← c.word.ensures)`: the definition at what the branch and the calls tell.
+/// `rw (c.if-on.true, ← c.word.ensures)`, `rw c.in-Some.is`: the definition at what the branch and the calls tell.
 fn holds_by_facts(argument: &str, laws: &HashSet<String>) -> bool {
-    let facts = argument
-        .strip_prefix("rw (")
-        .and_then(|a| a.strip_suffix(')'));
-    facts.is_some_and(|f| f.split(", ").all(|it| is_fact(it, laws)))
+    let Some(facts) = argument.strip_prefix("rw ") else {
+        return false;
+    };
+    let listed = facts.strip_prefix('(').and_then(|f| f.strip_suffix(')'));
+    let mut each = listed.unwrap_or(facts).split(", ");
+    each.all(|it| is_fact(it, laws))
 }
 
 /// A fact that is known at a place, as `c.if-on.true`, or a definition's name.
@@ -176,6 +178,8 @@ mod tests {
             lines("returns c = rw (c.if-on.true, ← c.word.ensures)\n"),
             0
         );
+        assert_eq!(lines("returns c = rw c.in-Some.is\n"), 0);
+        assert_eq!(lines("returns c = rw c.in-Some.is c.word.ensures\n"), 1);
         assert_eq!(
             lines("again c = law _ _ c.loop-i.invariant (omega (arith, c.if-on.true))\n"),
             0
