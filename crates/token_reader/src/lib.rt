@@ -1,7 +1,5 @@
 // The token reader as a record of a text and a place in it (document 01, "Tokens"). Its calls are thin: the work is
-// `token::scan`'s. The borrow checker covers no function that takes, makes or holds a record with a reference in it, so
-// each is proved by hand;
-// `scan_at` has plain parameters, and whoever reads tokens through it needs no such proof.
+// `token::scan`'s. `scan_at` has plain parameters, for callers that keep no reader.
 #![tactic(auto)]
 
 ghost use Rattle.std.specs.Prelude.{◌≡◌};
