@@ -2,15 +2,14 @@
 -- among them; later pieces only add at the end.
 use Prim.Native.Nat.{ℕ, ◌+◌, ◌-◌, ◌≤◌}
 use mathlib.Core.Path.{◌≡◌, ◌∙◌, refl, sym, ap}
-use mathlib.Core.Logic.{⊎_elim}
 use native.Mathlib.Omega.{arith}
 use lib.Arith.{lt_of_le-ne}
 use lib.ListN.{get_or-eq_default, length}
 use borrow.Author.Rules.{rules}
 use Rattle.wiring.specs.Order.{registers_to}
 use Rattle.wiring.proofs.OrderLaws.{registers-none, registers-old, length-new, access-found}
-use Rattle.logic.proofs.Tests.{failed, passed}
 use Rattle.wiring.proofs.order.register_at.Goals as goal
+use Rattle.wiring.proofs.order.register_at.Goals.{then-not-mentioned+else-seen-n, else-not-mentioned}
 
 pub loop-k-init : goal.loop-k-init
 loop-k-init c = (search rules, c.requires.few, refl, search rules, search rules, sym (ap length (registers-none _ _)))
@@ -28,14 +27,16 @@ mentioned-requires c = record {
     }
 
 pub returns-then-seen-n : goal.returns-then-seen-n
-returns-then-seen-n c = sym (access-found _ _ _ _ _ _ c.loop-k-test.true c.piece_at-piece.ensures.is (failed c.mentioned.ensures c.if-not-mentioned.true) (sym c.loop-k.invariant.5 ∙ c.if-seen-n.true))
+returns-then-seen-n c = sym (access-found _ _ _ _ _ _ c.loop-k-test.true c.piece_at-piece.ensures.is (sym c.mentioned.ensures ∙ c.if-not-mentioned.true) (sym c.loop-k.invariant.5 ∙ c.if-seen-n.true))
 
 pub loop-k-preserved : goal.loop-k-preserved
 loop-k-preserved c =
-    ⊎_elim
-    (λ w. let l = lt_of_le-ne c.loop-k.invariant.3 w.1.left in (search rules, c.loop-k.invariant.1, refl, omega (arith, w.2), omega (arith, w.2), w.2 ∙ ap (λ (n : ℕ). n + 1) c.loop-k.invariant.5 ∙ sym (length-new _ _ _ _ c.piece_at-piece.ensures.is (failed c.mentioned.ensures w.0.taken))))
-    (λ w. (search rules, c.loop-k.invariant.1, refl, omega (arith, w.1), omega (arith, w.1), w.1 ∙ c.loop-k.invariant.5 ∙ ap length (sym (registers-old _ _ _ _ c.piece_at-piece.ensures.is (passed c.mentioned.ensures w.0.left)))))
-    c.if-not-mentioned.branch
+    elim c.if-not-mentioned.branch [
+        then-not-mentioned+else-seen-n w ↦
+            let l = lt_of_le-ne c.loop-k.invariant.3 w.if-seen-n.false in
+            (search rules, c.loop-k.invariant.1, refl, omega (arith, w.seen-is), omega (arith, w.seen-is), w.seen-is ∙ ap (λ (n : ℕ). n + 1) c.loop-k.invariant.5 ∙ sym (length-new _ _ _ _ c.piece_at-piece.ensures.is (sym c.mentioned.ensures ∙ w.if-not-mentioned.true)))
+        | else-not-mentioned w ↦ (search rules, c.loop-k.invariant.1, refl, omega (arith, w.seen-is), omega (arith, w.seen-is), w.seen-is ∙ c.loop-k.invariant.5 ∙ ap length (sym (registers-old _ _ _ _ c.piece_at-piece.ensures.is (sym c.mentioned.ensures ∙ w.if-not-mentioned.false))))
+    ]
 
 pub returns : goal.returns
 returns c =

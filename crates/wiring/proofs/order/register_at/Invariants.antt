@@ -2,14 +2,12 @@
 -- among them; later pieces only add at the end.
 use Prim.Native.Nat.{ℕ, ◌+◌, ◌-◌, ◌≤◌}
 use mathlib.Core.Path.{◌≡◌, ◌∙◌, refl, sym, ap}
-use mathlib.Core.Logic.{⊎_elim}
 use native.Mathlib.Omega.{arith}
 use lib.Arith.{lt_of_le-ne}
 use lib.ListN.{get_or-eq_default, length}
 use borrow.Author.Rules.{rules}
 use Rattle.wiring.specs.Order.{registers_to}
 use Rattle.wiring.proofs.OrderLaws.{registers-none, registers-old, length-new, access-found}
-use Rattle.logic.proofs.Tests.{failed, passed}
 use Rattle.wiring.proofs.order.register_at.Given as goal
 
 abbrev pub invariant-loop-k : goal.invariant-loop-k

@@ -1,14 +1,13 @@
 -- `wiring::order::register_count` meets its contract: the pieces passed have named `seen` registers.
 use Prim.Native.Nat.{ℕ, ◌+◌, ◌-◌, ◌≤◌}
 use mathlib.Core.Path.{◌≡◌, ◌∙◌, refl, sym, ap}
-use mathlib.Core.Logic.{⊎_elim}
 use native.Mathlib.Omega.{arith}
 use borrow.Author.Rules.{rules}
 use lib.ListN.{length}
 use Rattle.wiring.specs.Order.{registers_to}
 use Rattle.wiring.proofs.OrderLaws.{registers-none, registers-old, length-new}
-use Rattle.logic.proofs.Tests.{failed, passed}
 use Rattle.wiring.proofs.order.register_count.Goals as goal
+use Rattle.wiring.proofs.order.register_count.Goals.{then-not-mentioned, else-not-mentioned}
 
 pub loop-k-init : goal.loop-k-init
 loop-k-init c = (search rules, c.requires.few, refl, search rules, sym (ap length (registers-none _ _)))
@@ -27,10 +26,10 @@ mentioned-requires c = record {
 
 pub loop-k-preserved : goal.loop-k-preserved
 loop-k-preserved c =
-    ⊎_elim
-    (λ w. (search rules, c.loop-k.invariant.1, refl, omega (arith, w.1), w.1 ∙ ap (λ (n : ℕ). n + 1) c.loop-k.invariant.4 ∙ sym (length-new _ _ _ _ c.piece_at-piece.ensures.is (failed c.mentioned.ensures w.0.taken))))
-    (λ w. (search rules, c.loop-k.invariant.1, refl, omega (arith, w.1), w.1 ∙ c.loop-k.invariant.4 ∙ ap length (sym (registers-old _ _ _ _ c.piece_at-piece.ensures.is (passed c.mentioned.ensures w.0.left)))))
-    c.if-not-mentioned.branch
+    elim c.if-not-mentioned.branch [
+        then-not-mentioned w ↦ (search rules, c.loop-k.invariant.1, refl, omega (arith, w.seen-is), w.seen-is ∙ ap (λ (n : ℕ). n + 1) c.loop-k.invariant.4 ∙ sym (length-new _ _ _ _ c.piece_at-piece.ensures.is (sym c.mentioned.ensures ∙ w.if-not-mentioned.true)))
+        | else-not-mentioned w ↦ (search rules, c.loop-k.invariant.1, refl, omega (arith, w.seen-is), w.seen-is ∙ c.loop-k.invariant.4 ∙ ap length (sym (registers-old _ _ _ _ c.piece_at-piece.ensures.is (sym c.mentioned.ensures ∙ w.if-not-mentioned.false))))
+    ]
 
 pub returns : goal.returns
 returns c =

@@ -1,13 +1,11 @@
 -- `wiring::order::register_count` meets its contract: the pieces passed have named `seen` registers.
 use Prim.Native.Nat.{ℕ, ◌+◌, ◌-◌, ◌≤◌}
 use mathlib.Core.Path.{◌≡◌, ◌∙◌, refl, sym, ap}
-use mathlib.Core.Logic.{⊎_elim}
 use native.Mathlib.Omega.{arith}
 use borrow.Author.Rules.{rules}
 use lib.ListN.{length}
 use Rattle.wiring.specs.Order.{registers_to}
 use Rattle.wiring.proofs.OrderLaws.{registers-none, registers-old, length-new}
-use Rattle.logic.proofs.Tests.{failed, passed}
 use Rattle.wiring.proofs.order.register_count.Given as goal
 
 abbrev pub invariant-loop-k : goal.invariant-loop-k

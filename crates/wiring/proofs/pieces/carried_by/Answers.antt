@@ -34,7 +34,7 @@ pub size_of-base-requires : goal.size_of-base-requires
 size_of-base-requires c = c.piece_at-piece.ensures.small
 
 pub loop-k-preserved : goal.loop-k-preserved
-loop-k-preserved c = (search rules, omega arith, c.loop-k.invariant.2 ∙ place-next _ _ _ _ _ _ _ _ c.loop-k-test.true c.piece_at-piece.ensures.is (sym c.covers_bit.ensures ∙ c.if-covers_bit.false) c.type_size.ensures)
+loop-k-preserved c = (search rules, omega arith, c.loop-k.invariant.2 ∙ place-next _ _ _ _ _ _ _ _ c.loop-k-test.true c.piece_at-piece.ensures.is (sym c.covers_bit.ensures ∙ c.if-covers_bit.false) c.size_of-base.ensures)
 
 pub returns : goal.returns
 returns c = sym (c.loop-k.invariant.2 ∙ place_none _ _ _ _ _ _ c.loop-k-test.false)
