@@ -14,7 +14,7 @@ loop-k-init c = (omega arith, refl, unknown-none _ _ _ c.no_fault-fault.ensures,
 pub loop-k-preserved : goal.loop-k-preserved
 loop-k-preserved c = (
   omega arith,
-  c.store_piece.auto.0 ∙ c.loop-k.invariant.1,
+  c.store_piece.auto.pieces ∙ c.loop-k.invariant.1,
   unknown-more _ _ _ _ c.loop-k.invariant.2 c.piece_named-found.ensures c.item-place.ensures c.is_nothing.ensures c.fault_if-unknown.ensures c.or_else-fault.ensures,
   pieces_more _ _ _ _ _ c.loop-k.invariant.3 c.piece_named-found.ensures c.index_of-register.ensures c.narrow.ensures c.high_of-high.ensures c.item-low.ensures c.store_piece.ensures,
 )

@@ -14,4 +14,4 @@ name_fault-names-requires c = let p = c.requires in record {
 pub returns : goal.returns
 returns c =
     let names = c.name_fault-names.ensures in
-    early-is _ _ _ _ _ _ _ _ names.0 names.1.0 names.1.1 c.list_for-read.ensures c.list_for-write.ensures c.fault_if-unpaired.ensures c.or_else.ensures
+    early-is _ _ _ _ _ _ _ _ names.named names.first names.second c.list_for-read.ensures c.list_for-write.ensures c.fault_if-unpaired.ensures c.or_else.ensures

@@ -3,20 +3,13 @@ use Rattle.rules.proofs.VariableLaws.{mapped-entry, judged-at, mapped_at}
 use borrow.Author.Rules.{rules}
 use Rattle.rules.proofs.variable.enter.Goals as goal
 
-pub store_variable-requires : goal.store_variable-requires
-store_variable-requires c = record {
-    variables_bound = search rules;
-    first_len_bound = omega (arith, slice-aggregate-store-variable (goal.at.store_variable-requires c).After-firsts-2-1);
-    second_len_bound = omega (arith, slice-aggregate-store-variable-2 (goal.at.store_variable-requires c).After-seconds-2-1)
-    }
-
 pub late_number-number-requires : goal.late_number-number-requires
 late_number-number-requires c =
-    let p = c.requires.1.1 in
+    let p = c.requires in
     record {
     v_bound = search rules;
     registers_bound = search rules;
-    mapped = mapped-entry _ _ _ _ _ _ p.0 p.1 c.store_variable.ensures c.word-v.ensures.is
+    mapped = mapped-entry _ _ _ _ _ _ p.variables_value p.mapped_2 c.store_variable.ensures c.word-v.ensures.is
     }
 
 pub returns-then-number-eq0 : goal.returns-then-number-eq0

@@ -10,9 +10,6 @@ returns-then-broken-ne0 c = record {
     mapped = λ e. absurd (c.if-broken-ne0.true (sym (faulted-number _ _ c.with_fault.ensures) ∙ e))
     }
 
-pub enter-number-requires : goal.enter-number-requires
-enter-number-requires c = let p = c.requires.1 in (p.0, (p.1.0, p.1.1))
-
 pub returns : goal.returns
 returns c = record {
     judged = judged-late _ _ _ _ _ _ _ _ c.early_of-early.ensures c.if-broken-ne0.false c.enter-number.ensures.stored c.enter-number.ensures.judged c.fault_if-late.ensures c.with_fault-2.ensures;

@@ -12,7 +12,7 @@ pub loop-k-init : goal.loop-k-init
 loop-k-init c = (omega arith, refl, written_start _ _ _)
 
 pub loop-k-preserved : goal.loop-k-preserved
-loop-k-preserved c = (omega arith, c.put.auto.0 ∙ c.loop-k.invariant.1, c.loop-k.invariant.2 ∙ written-turn _ _ _ _ c.loop-k-test.true c.put.ensures)
+loop-k-preserved c = (omega arith, c.put.auto.table ∙ c.loop-k.invariant.1, c.loop-k.invariant.2 ∙ written-turn _ _ _ _ c.loop-k-test.true c.put.ensures)
 
 pub shape_of-table : goal.shape_of-table
 shape_of-table c = c.loop-k.invariant.1
