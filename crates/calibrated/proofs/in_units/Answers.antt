@@ -1,3 +1,4 @@
+use mir.Syntax.{w64}
 use mir.Facts.{to_z-of_z}
 use lib.IntN.{ℤ}
 use Rattle.calibrated.specs.Readings.{done_in, in_units_of}
@@ -11,7 +12,7 @@ returns-in-Offer c = rw c.in-Offer.is
 
 pub returns-in-Done : goal.returns-in-Done
 unfolding in_units_of
-returns-in-Done c = rw c.in-Done.is (c.done_in.ensures ∙ ap (λ (z : ℤ). done_in z c.in-Done.accesses c.args.calibration) (to_z-of_z (record { sfits = c.known_told-in-Done-1.given.0.1 })))
+returns-in-Done c = rw c.in-Done.is (c.done_in.ensures ∙ ap (λ (z : ℤ). done_in z c.in-Done.accesses c.args.calibration) (to_z-of_z {w = w64} (search rules)))
 
 pub returns-in-Opened : goal.returns-in-Opened
 unfolding in_units_of
