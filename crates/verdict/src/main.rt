@@ -2,10 +2,13 @@
 // one byte more tells refusal 2, and no more is read.
 #![tactic(auto)]
 
-fn main() {
+use std::io;
+use std::io::Write;
+
+fn main(rt: HostRuntime) -> io::Result<()> {
     let mut buffer = [0u8; 8193];
-    let n = io::read_full(0, &mut buffer);
+    let n = streams::read_full(&mut rt.stdin(), &mut buffer)?;
     let mut line = [0u8; 80];
     let end = lines::line_on(&buffer[..n], &mut line);
-    io::write_all(1, &line[..end]);
+    rt.stdout().write_all(&line[..end])
 }
