@@ -5,4 +5,4 @@ use borrow.Author.Rules.{rules}
 use Rattle.lines.proofs.put.put_decimal.Goals as goal
 
 pub returns : goal.returns
-returns c = put_as (part_end c.spell-start.new.1.0 c.spell-start.result 20 c.spell-start.auto.1.0 ∙ c.spell-start.ensures.1) c.put_bytes.ensures
+returns c = put_as (part_end c.spell-start.new.digits c.spell-start.result 20 c.spell-start.auto.digits ∙ c.spell-start.ensures.1) c.put_bytes.ensures
