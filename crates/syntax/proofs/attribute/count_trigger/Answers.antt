@@ -1,5 +1,4 @@
 use Rattle.syntax.specs.Attribute.{made_trigger}
-use borrow.Author.Rules.{rules}
 use Rattle.syntax.proofs.attribute.count_trigger.Goals as goal
 
 pub returns : goal.returns

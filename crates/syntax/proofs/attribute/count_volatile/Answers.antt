@@ -1,5 +1,4 @@
 use Rattle.syntax.specs.Attribute.{made_volatile}
-use borrow.Author.Rules.{rules}
 use Rattle.syntax.proofs.attribute.count_volatile.Goals as goal
 
 pub returns : goal.returns

@@ -1,6 +1,5 @@
 use mathlib.Core.Path.{◌∙◌}
 use Rattle.syntax.specs.Parameter.{stored}
-use borrow.Author.Rules.{rules}
 use Rattle.syntax.proofs.parameter.store_range.Goals as goal
 
 pub returns : goal.returns

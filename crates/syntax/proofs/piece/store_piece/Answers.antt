@@ -1,6 +1,5 @@
 use mathlib.Core.Path.{◌∙◌}
 use Rattle.syntax.specs.Piece.{filed}
-use borrow.Author.Rules.{rules}
 use Rattle.syntax.proofs.piece.store_piece.Goals as goal
 
 pub returns : goal.returns

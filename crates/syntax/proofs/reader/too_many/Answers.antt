@@ -1,5 +1,4 @@
 use Rattle.syntax.specs.Reader.{too_many}
-use borrow.Author.Rules.{rules}
 use Rattle.syntax.proofs.reader.too_many.Goals as goal
 
 pub returns-in-At : goal.returns-in-At

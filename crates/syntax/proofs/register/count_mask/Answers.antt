@@ -1,5 +1,4 @@
 use Rattle.syntax.specs.Register.{counted}
-use borrow.Author.Rules.{rules}
 use Rattle.syntax.proofs.register.count_mask.Goals as goal
 
 pub returns : goal.returns

@@ -1,6 +1,5 @@
 use mathlib.Core.Path.{◌∙◌}
 use Rattle.syntax.specs.Register.{up_if}
-use borrow.Author.Rules.{rules}
 use Rattle.syntax.proofs.register.up_if.Goals as goal
 
 pub returns-then-is : goal.returns-then-is

@@ -1,6 +1,5 @@
 use Rattle.syntax.specs.Register.{up_one}
 use borrow.Author.Tests.{lt-ltb, le-ltb}
-use borrow.Author.Rules.{rules}
 use Rattle.syntax.proofs.register.up_one.Goals as goal
 
 pub returns-then-count-lt2 : goal.returns-then-count-lt2

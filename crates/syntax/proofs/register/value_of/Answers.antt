@@ -1,6 +1,5 @@
 use Rattle.syntax.specs.Register.{valued_by, worth_in}
 use Rattle.syntax.specs.Offset.{step_in}
-use borrow.Author.Rules.{rules}
 use Rattle.syntax.proofs.register.value_of.Goals as goal
 
 pub returns-in-Read : goal.returns-in-Read
