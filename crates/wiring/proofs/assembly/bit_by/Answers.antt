@@ -1,6 +1,5 @@
 -- `wiring::assembly::bit_by` meets its contract: in each arm the rule is the constructor that the arm names.
 use mathlib.Core.Path.{◌∙◌}
-use borrow.Author.Rules.{rules}
 use Rattle.wiring.specs.Assembly.{bit_by}
 use Rattle.wiring.proofs.assembly.bit_by.Goals as goal
 

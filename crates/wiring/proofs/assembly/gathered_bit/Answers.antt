@@ -1,6 +1,5 @@
 -- `wiring::assembly::gathered_bit` meets its contract.
 use borrow.Author.Tests.{eq-eqb, ne_eqb}
-use borrow.Author.Rules.{rules}
 use Rattle.wiring.proofs.assembly.gathered_bit.Goals as goal
 
 pub returns-then-q-r : goal.returns-then-q-r

@@ -1,6 +1,5 @@
 -- `wiring::assembly::kept_bit` meets its contract.
 use mathlib.Core.Path.{◌∙◌, sym}
-use borrow.Author.Rules.{rules}
 use Rattle.wiring.proofs.assembly.kept_bit.Goals as goal
 
 pub returns-then-read_before : goal.returns-then-read_before

@@ -1,6 +1,5 @@
 -- `wiring::assembly::written_bit` meets its contract.
 use mathlib.Core.Path.{◌∙◌, sym, ap}
-use borrow.Author.Rules.{rules}
 use Rattle.wiring.specs.Assembly.{written_bit}
 use Rattle.wiring.proofs.assembly.written_bit.Goals as goal
 

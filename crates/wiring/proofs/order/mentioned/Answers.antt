@@ -1,10 +1,8 @@
 -- `wiring::order::mentioned` meets its contract.
-use Prim.Native.Nat.{◌≤◌}
-use mathlib.Core.Path.{◌≡◌, ◌∙◌, refl, sym, ap}
+use mathlib.Core.Path.{◌∙◌, refl, sym, ap}
 use borrow.Author.Rules.{rules}
 use borrow.Author.Tests.{eq-eqb, ne_eqb}
 use Rattle.tables.specs.declared.Piece.{Piece}
-use Rattle.wiring.specs.Order.{is_mentioned}
 use Rattle.wiring.proofs.OrderLaws.{any_found, any_next, any_none}
 use Rattle.wiring.proofs.order.mentioned.Goals as goal
 
@@ -13,9 +11,9 @@ loop-left-init c = (search rules, refl)
 
 pub piece_at-piece-requires : goal.piece_at-piece-requires
 piece_at-piece-requires c = record {
-    usable = c.requires.usable;
-    k_bound = search rules
-    }
+  usable = c.requires.usable;
+  k_bound = search rules;
+}
 
 pub returns-then-piece-r : goal.returns-then-piece-r
 returns-then-piece-r c =

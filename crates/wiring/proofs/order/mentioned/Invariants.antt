@@ -1,11 +1,7 @@
 -- `wiring::order::mentioned` meets its contract.
 use Prim.Native.Nat.{◌≤◌}
-use mathlib.Core.Path.{◌≡◌, ◌∙◌, refl, sym, ap}
-use borrow.Author.Rules.{rules}
-use borrow.Author.Tests.{eq-eqb, ne_eqb}
-use Rattle.tables.specs.declared.Piece.{Piece}
+use mathlib.Core.Path.{◌≡◌}
 use Rattle.wiring.specs.Order.{is_mentioned}
-use Rattle.wiring.proofs.OrderLaws.{any_found, any_next, any_none}
 use Rattle.wiring.proofs.order.mentioned.Given as goal
 
 abbrev pub invariant-loop-left : goal.invariant-loop-left

@@ -1,8 +1,6 @@
 -- `wiring::order::read_before` meets its contract.
-use mathlib.Core.Path.{◌≡◌, ◌∙◌, refl, sym}
-use borrow.Author.Rules.{rules}
+use mathlib.Core.Path.{◌∙◌, refl, sym}
 use borrow.Author.Tests.{eq-eqb, ne_eqb}
-use Rattle.wiring.specs.Order.{read_before}
 use Rattle.wiring.proofs.OrderLaws.{any_found, any_next, any_none}
 use Rattle.wiring.proofs.order.read_before.Goals as goal
 

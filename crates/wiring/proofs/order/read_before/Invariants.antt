@@ -1,9 +1,6 @@
 -- `wiring::order::read_before` meets its contract.
-use mathlib.Core.Path.{◌≡◌, ◌∙◌, refl, sym}
-use borrow.Author.Rules.{rules}
-use borrow.Author.Tests.{eq-eqb, ne_eqb}
+use mathlib.Core.Path.{◌≡◌}
 use Rattle.wiring.specs.Order.{read_before}
-use Rattle.wiring.proofs.OrderLaws.{any_found, any_next, any_none}
 use Rattle.wiring.proofs.order.read_before.Given as goal
 
 abbrev pub invariant-loop-left : goal.invariant-loop-left

@@ -1,6 +1,6 @@
 -- `wiring::order::register_at` meets its contract: the pieces passed have named `seen` registers, the one asked for not
 -- among them; later pieces only add at the end.
-use Prim.Native.Nat.{ℕ, ◌+◌, ◌-◌, ◌≤◌}
+use Prim.Native.Nat.{ℕ, ◌+◌, ◌≤◌}
 use mathlib.Core.Path.{◌≡◌, ◌∙◌, refl, sym, ap}
 use native.Mathlib.Omega.{arith}
 use lib.Arith.{lt_of_le-ne}
@@ -16,15 +16,15 @@ loop-k-init c = (search rules, c.requires.few, refl, search rules, search rules,
 
 pub piece_at-piece-requires : goal.piece_at-piece-requires
 piece_at-piece-requires c = record {
-    usable = c.requires;
-    k_bound = search rules
-    }
+  usable = c.requires;
+  k_bound = search rules;
+}
 
 pub mentioned-requires : goal.mentioned-requires
 mentioned-requires c = record {
-    usable = c.requires;
-    k_bound = search rules
-    }
+  usable = c.requires;
+  k_bound = search rules;
+}
 
 pub returns-then-seen-n : goal.returns-then-seen-n
 returns-then-seen-n c = sym (access-found _ _ _ _ _ _ c.loop-k-test.true c.piece_at-piece.ensures.is (sym c.mentioned.ensures ∙ c.if-not-mentioned.true) (sym c.loop-k.invariant.5 ∙ c.if-seen-n.true))
@@ -32,10 +32,10 @@ returns-then-seen-n c = sym (access-found _ _ _ _ _ _ c.loop-k-test.true c.piece
 pub loop-k-preserved : goal.loop-k-preserved
 loop-k-preserved c =
     elim c.if-not-mentioned.branch [
-        then-not-mentioned+else-seen-n w ↦
-            let l = lt_of_le-ne c.loop-k.invariant.3 w.if-seen-n.false in
-            (search rules, c.loop-k.invariant.1, refl, omega (arith, w.seen-is), omega (arith, w.seen-is), w.seen-is ∙ ap (λ (n : ℕ). n + 1) c.loop-k.invariant.5 ∙ sym (length-new _ _ _ _ c.piece_at-piece.ensures.is (sym c.mentioned.ensures ∙ w.if-not-mentioned.true)))
-        | else-not-mentioned w ↦ (search rules, c.loop-k.invariant.1, refl, omega (arith, w.seen-is), omega (arith, w.seen-is), w.seen-is ∙ c.loop-k.invariant.5 ∙ ap length (sym (registers-old _ _ _ _ c.piece_at-piece.ensures.is (sym c.mentioned.ensures ∙ w.if-not-mentioned.false))))
+      | then-not-mentioned+else-seen-n w ↦
+          let l = lt_of_le-ne c.loop-k.invariant.3 w.if-seen-n.false in
+          (search rules, c.loop-k.invariant.1, refl, omega (arith, w.seen-is), omega (arith, w.seen-is), w.seen-is ∙ ap (λ (n : ℕ). n + 1) c.loop-k.invariant.5 ∙ sym (length-new _ _ _ _ c.piece_at-piece.ensures.is (sym c.mentioned.ensures ∙ w.if-not-mentioned.true)))
+      | else-not-mentioned w ↦ (search rules, c.loop-k.invariant.1, refl, omega (arith, w.seen-is), omega (arith, w.seen-is), w.seen-is ∙ c.loop-k.invariant.5 ∙ ap length (sym (registers-old _ _ _ _ c.piece_at-piece.ensures.is (sym c.mentioned.ensures ∙ w.if-not-mentioned.false))))
     ]
 
 pub returns : goal.returns

@@ -1,13 +1,9 @@
 -- `wiring::order::register_at` meets its contract: the pieces passed have named `seen` registers, the one asked for not
 -- among them; later pieces only add at the end.
-use Prim.Native.Nat.{ℕ, ◌+◌, ◌-◌, ◌≤◌}
-use mathlib.Core.Path.{◌≡◌, ◌∙◌, refl, sym, ap}
-use native.Mathlib.Omega.{arith}
-use lib.Arith.{lt_of_le-ne}
-use lib.ListN.{get_or-eq_default, length}
-use borrow.Author.Rules.{rules}
+use Prim.Native.Nat.{◌-◌, ◌≤◌}
+use mathlib.Core.Path.{◌≡◌}
+use lib.ListN.{length}
 use Rattle.wiring.specs.Order.{registers_to}
-use Rattle.wiring.proofs.OrderLaws.{registers-none, registers-old, length-new, access-found}
 use Rattle.wiring.proofs.order.register_at.Given as goal
 
 abbrev pub invariant-loop-k : goal.invariant-loop-k

@@ -1,6 +1,6 @@
 -- `wiring::order::register_count` meets its contract: the pieces passed have named `seen` registers.
-use Prim.Native.Nat.{ℕ, ◌+◌, ◌-◌, ◌≤◌}
-use mathlib.Core.Path.{◌≡◌, ◌∙◌, refl, sym, ap}
+use Prim.Native.Nat.{ℕ, ◌+◌}
+use mathlib.Core.Path.{◌∙◌, refl, sym, ap}
 use native.Mathlib.Omega.{arith}
 use borrow.Author.Rules.{rules}
 use lib.ListN.{length}
@@ -14,21 +14,21 @@ loop-k-init c = (search rules, c.requires.few, refl, search rules, sym (ap lengt
 
 pub piece_at-piece-requires : goal.piece_at-piece-requires
 piece_at-piece-requires c = record {
-    usable = c.requires;
-    k_bound = search rules
-    }
+  usable = c.requires;
+  k_bound = search rules;
+}
 
 pub mentioned-requires : goal.mentioned-requires
 mentioned-requires c = record {
-    usable = c.requires;
-    k_bound = search rules
-    }
+  usable = c.requires;
+  k_bound = search rules;
+}
 
 pub loop-k-preserved : goal.loop-k-preserved
 loop-k-preserved c =
     elim c.if-not-mentioned.branch [
-        then-not-mentioned w ↦ (search rules, c.loop-k.invariant.1, refl, omega (arith, w.seen-is), w.seen-is ∙ ap (λ (n : ℕ). n + 1) c.loop-k.invariant.4 ∙ sym (length-new _ _ _ _ c.piece_at-piece.ensures.is (sym c.mentioned.ensures ∙ w.if-not-mentioned.true)))
-        | else-not-mentioned w ↦ (search rules, c.loop-k.invariant.1, refl, omega (arith, w.seen-is), w.seen-is ∙ c.loop-k.invariant.4 ∙ ap length (sym (registers-old _ _ _ _ c.piece_at-piece.ensures.is (sym c.mentioned.ensures ∙ w.if-not-mentioned.false))))
+      | then-not-mentioned w ↦ (search rules, c.loop-k.invariant.1, refl, omega (arith, w.seen-is), w.seen-is ∙ ap (λ (n : ℕ). n + 1) c.loop-k.invariant.4 ∙ sym (length-new _ _ _ _ c.piece_at-piece.ensures.is (sym c.mentioned.ensures ∙ w.if-not-mentioned.true)))
+      | else-not-mentioned w ↦ (search rules, c.loop-k.invariant.1, refl, omega (arith, w.seen-is), w.seen-is ∙ c.loop-k.invariant.4 ∙ ap length (sym (registers-old _ _ _ _ c.piece_at-piece.ensures.is (sym c.mentioned.ensures ∙ w.if-not-mentioned.false))))
     ]
 
 pub returns : goal.returns

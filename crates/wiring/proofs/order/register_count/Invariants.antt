@@ -1,11 +1,8 @@
 -- `wiring::order::register_count` meets its contract: the pieces passed have named `seen` registers.
-use Prim.Native.Nat.{ℕ, ◌+◌, ◌-◌, ◌≤◌}
-use mathlib.Core.Path.{◌≡◌, ◌∙◌, refl, sym, ap}
-use native.Mathlib.Omega.{arith}
-use borrow.Author.Rules.{rules}
+use Prim.Native.Nat.{◌-◌, ◌≤◌}
+use mathlib.Core.Path.{◌≡◌}
 use lib.ListN.{length}
 use Rattle.wiring.specs.Order.{registers_to}
-use Rattle.wiring.proofs.OrderLaws.{registers-none, registers-old, length-new}
 use Rattle.wiring.proofs.order.register_count.Given as goal
 
 abbrev pub invariant-loop-k : goal.invariant-loop-k

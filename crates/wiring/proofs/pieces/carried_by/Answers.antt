@@ -1,10 +1,8 @@
 -- `wiring::pieces::carried_by` meets its contract: the invariant says that the pieces not yet seen decide; each turn is
 -- one law of `carried_below`.
-use Prim.Native.Nat.{◌+◌, ◌*◌, ◌≤◌}
-use mathlib.Core.Path.{◌≡◌, ◌∙◌, refl, sym}
+use mathlib.Core.Path.{◌∙◌, refl, sym}
 use native.Mathlib.Omega.{arith}
 use borrow.Author.Rules.{rules}
-use Rattle.wiring.specs.Pieces.{carried_by, carried_below}
 use Rattle.wiring.proofs.PieceLaws.{covers_low, covers_high, place_found, place-next, place_none}
 use Rattle.wiring.proofs.pieces.carried_by.Goals as goal
 
@@ -13,9 +11,9 @@ loop-k-init c = (search rules, omega (arith, c.requires.few), refl)
 
 pub piece_at-piece-requires : goal.piece_at-piece-requires
 piece_at-piece-requires c = record {
-    usable = c.requires;
-    k_bound = search rules
-    }
+  usable = c.requires;
+  k_bound = search rules;
+}
 
 pub overflow_sub-result : goal.overflow_sub-result
 overflow_sub-result c =

@@ -1,11 +1,8 @@
 -- `wiring::pieces::carried_by` meets its contract: the invariant says that the pieces not yet seen decide; each turn is
 -- one law of `carried_below`.
 use Prim.Native.Nat.{◌+◌, ◌*◌, ◌≤◌}
-use mathlib.Core.Path.{◌≡◌, ◌∙◌, refl, sym}
-use native.Mathlib.Omega.{arith}
-use borrow.Author.Rules.{rules}
+use mathlib.Core.Path.{◌≡◌}
 use Rattle.wiring.specs.Pieces.{carried_by, carried_below}
-use Rattle.wiring.proofs.PieceLaws.{covers_low, covers_high, place_found, place-next, place_none}
 use Rattle.wiring.proofs.pieces.carried_by.Given as goal
 
 abbrev pub invariant-loop-k : goal.invariant-loop-k

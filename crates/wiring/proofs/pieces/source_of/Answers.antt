@@ -1,9 +1,6 @@
 -- `wiring::pieces::source_of` meets its contract: as `carried_by`, with the laws of `source_below`.
-use Prim.Native.Nat.{◌≤◌}
-use mathlib.Core.Path.{◌≡◌, ◌∙◌, refl, sym}
-use native.Mathlib.Omega.{arith}
+use mathlib.Core.Path.{◌∙◌, refl, sym}
 use borrow.Author.Rules.{rules}
-use Rattle.wiring.specs.Pieces.{source_of, source_below}
 use Rattle.wiring.proofs.PieceLaws.{source-found, source-next, source-none}
 use Rattle.wiring.proofs.pieces.source_of.Goals as goal
 
@@ -12,9 +9,9 @@ loop-k-init c = (search rules, refl)
 
 pub piece_at-piece-requires : goal.piece_at-piece-requires
 piece_at-piece-requires c = record {
-    usable = c.requires;
-    k_bound = search rules
-    }
+  usable = c.requires;
+  k_bound = search rules;
+}
 
 pub size_of-size-requires : goal.size_of-size-requires
 size_of-size-requires c = c.piece_at-piece.ensures.small

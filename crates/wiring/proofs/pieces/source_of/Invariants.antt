@@ -1,10 +1,7 @@
 -- `wiring::pieces::source_of` meets its contract: as `carried_by`, with the laws of `source_below`.
 use Prim.Native.Nat.{◌≤◌}
-use mathlib.Core.Path.{◌≡◌, ◌∙◌, refl, sym}
-use native.Mathlib.Omega.{arith}
-use borrow.Author.Rules.{rules}
+use mathlib.Core.Path.{◌≡◌}
 use Rattle.wiring.specs.Pieces.{source_of, source_below}
-use Rattle.wiring.proofs.PieceLaws.{source-found, source-next, source-none}
 use Rattle.wiring.proofs.pieces.source_of.Given as goal
 
 abbrev pub invariant-loop-k : goal.invariant-loop-k
