@@ -9,6 +9,7 @@ ghost use Rattle.std.specs.Prelude.{◌≤◌};
 use frames::Frame;
 use loader::Verdict;
 use pieces::Reply;
+use std::io;
 
 // What stands between two calls, beside the store.
 #[derive(Clone, Copy)]
@@ -17,37 +18,37 @@ struct Arriving {
     short: bool,
 }
 
-fn say(words: &[u8]) {
-    io::write_all(1, words);
+fn say(out: &mut impl io::Write, words: &[u8]) -> io::Result<()> {
+    out.write_all(words)
 }
 
-fn number_after(words: &[u8], number: usize) {
-    say(words);
-    io::print_decimal(1, number as u64);
+fn number_after(out: &mut impl io::Write, words: &[u8], number: usize) -> io::Result<()> {
+    say(out, words)?;
+    write!(out, "{number}")
 }
 
-fn tell_refused(number: u32, place: usize) {
-    number_after(b"refused ", number as usize);
-    number_after(b" ", place);
-    say(b"\n");
+fn tell_refused(out: &mut impl io::Write, number: u32, place: usize) -> io::Result<()> {
+    number_after(out, b"refused ", number as usize)?;
+    number_after(out, b" ", place)?;
+    say(out, b"\n")
 }
 
-fn tell_reply(reply: Reply) {
+fn tell_reply(out: &mut impl io::Write, reply: Reply) -> io::Result<()> {
     match reply {
-        Reply::More => say(b"more\n"),
-        Reply::Refused(number, place) => tell_refused(number, place),
+        Reply::More => say(out, b"more\n"),
+        Reply::Refused(number, place) => tell_refused(out, number, place),
     }
 }
 
-fn tell_verdict(verdict: Verdict) {
+fn tell_verdict(out: &mut impl io::Write, verdict: Verdict) -> io::Result<()> {
     match verdict {
         Verdict::Accepted(parameters, registers, variables) => {
-            number_after(b"accepted ", parameters as usize);
-            number_after(b" ", registers as usize);
-            number_after(b" ", variables as usize);
-            say(b"\n");
+            number_after(out, b"accepted ", parameters as usize)?;
+            number_after(out, b" ", registers as usize)?;
+            number_after(out, b" ", variables as usize)?;
+            say(out, b"\n")
         }
-        Verdict::Refused(number, place) => tell_refused(number, place),
+        Verdict::Refused(number, place) => tell_refused(out, number, place),
     }
 }
 
@@ -62,13 +63,14 @@ fn lent(length: usize, short: bool) -> usize
 }
 
 fn take(
+    out: &mut impl io::Write,
     piece: &[u8],
     store: &mut [u8],
     parameters: &[u32],
     registers: &[u32],
     variables: &[u32],
     now: Arriving,
-) -> Arriving {
+) -> io::Result<Arriving> {
     let short = now.short;
     let part = lent(store.len(), short);
     let took = pieces::take_piece(
@@ -80,42 +82,43 @@ fn take(
         variables,
     );
     let reply = took.reply;
-    tell_reply(reply);
-    Arriving {
+    tell_reply(out, reply)?;
+    Ok(Arriving {
         taken: took.taken,
         short,
-    }
+    })
 }
 
 fn end(
+    out: &mut impl io::Write,
     store: &[u8],
     parameters: &mut [u32],
     registers: &mut [u32],
     variables: &mut [u32],
     now: Arriving,
-) -> Arriving {
+) -> io::Result<Arriving> {
     let short = now.short;
     let part = lent(store.len(), short);
     let ended = pieces::end_pieces(&store[..part], now.taken, parameters, registers, variables);
     let verdict = ended.verdict;
-    tell_verdict(verdict);
-    Arriving {
+    tell_verdict(out, verdict)?;
+    Ok(Arriving {
         taken: ended.taken,
         short,
-    }
+    })
 }
 
-fn lend(what: &[u8], now: Arriving) -> Arriving {
+fn lend(out: &mut impl io::Write, what: &[u8], now: Arriving) -> io::Result<Arriving> {
     let short = script::is(what, b"short");
     if short | script::is(what, b"all") {
-        say(b"lent\n");
-        return Arriving {
+        say(out, b"lent\n")?;
+        return Ok(Arriving {
             taken: now.taken,
             short,
-        };
+        });
     }
-    say(b"unknown\n");
-    now
+    say(out, b"unknown\n")?;
+    Ok(now)
 }
 
 // Whether a line asks for nothing: it has no word, or is a comment.
@@ -129,38 +132,40 @@ fn is_skipped(first: &[u8]) -> bool {
 
 // A line that heads no piece.
 fn hear(
+    out: &mut impl io::Write,
     line: &[u8],
     store: &[u8],
     parameters: &mut [u32],
     registers: &mut [u32],
     variables: &mut [u32],
     now: Arriving,
-) -> Arriving {
+) -> io::Result<Arriving> {
     let first = script::word(line);
     if is_skipped(first) {
-        return now;
+        return Ok(now);
     }
     let tail = script::rest(line);
     let second = script::word(tail);
     if script::is(first, b"end") & (second.len() == 0) {
-        return end(store, parameters, registers, variables, now);
+        return end(out, store, parameters, registers, variables, now);
     }
     let third = script::word(script::rest(tail));
     if script::is(first, b"lend") & (third.len() == 0) {
-        return lend(second, now);
+        return lend(out, second, now);
     }
-    say(b"unknown\n");
-    now
+    say(out, b"unknown\n")?;
+    Ok(now)
 }
 
 // One call at a time. Each turn takes a line, so the loop ends.
 fn run(
+    out: &mut impl io::Write,
     calls: &[u8],
     store: &mut [u8],
     parameters: &mut [u32],
     registers: &mut [u32],
     variables: &mut [u32],
-) {
+) -> io::Result<()> {
     let mut now = Arriving {
         taken: 0,
         short: false,
@@ -171,60 +176,72 @@ fn run(
         match frame {
             Frame::Text { start, end, next } => {
                 now = take(
+                    out,
                     &calls[start..end],
                     store,
                     parameters,
                     registers,
                     variables,
                     now,
-                );
+                )?;
                 at = next;
             }
             Frame::Nothing => {
                 let to = script::line_end(calls, at);
-                now = hear(&calls[at..to], store, parameters, registers, variables, now);
+                now = hear(
+                    out,
+                    &calls[at..to],
+                    store,
+                    parameters,
+                    registers,
+                    variables,
+                    now,
+                )?;
                 at = to + 1;
             }
         }
     }
+    Ok(())
 }
 
 // A script, with a store and tables of its own.
-fn play(calls: &[u8]) {
+fn play(out: &mut impl io::Write, calls: &[u8]) -> io::Result<()> {
     let mut store = [0u8; 8192];
     let mut parameters = [0u32; 577];
     let mut registers = [0u32; 961];
     let mut variables = [0u32; 7553];
     run(
+        out,
         calls,
         &mut store,
         &mut parameters,
         &mut registers,
         &mut variables,
-    );
+    )
 }
 
 // Framed scripts, one after the other, and where they end. A frame ends after it began, so the loop does.
-fn play_framed(input: &[u8]) -> usize {
+fn play_framed(out: &mut impl io::Write, input: &[u8]) -> io::Result<usize> {
     let mut at = 0;
     loop {
         let frame = frames::frame_at(input, at);
         match frame {
             Frame::Text { start, end, next } => {
-                play(&input[start..end]);
+                play(out, &input[start..end])?;
                 at = next;
             }
-            Frame::Nothing => return at,
+            Frame::Nothing => return Ok(at),
         }
     }
 }
 
-fn main() {
+fn main(rt: HostRuntime) -> io::Result<()> {
     let mut buffer = frames::space();
-    let n = io::read_full(0, &mut buffer);
+    let n = streams::read_full(&mut rt.stdin(), &mut buffer)?;
     let input = &buffer[..n];
-    let framed = play_framed(input);
+    let framed = play_framed(&mut rt.stdout(), input)?;
     if framed == 0 {
-        play(input);
+        play(&mut rt.stdout(), input)?;
     }
+    Ok(())
 }

@@ -3,30 +3,31 @@
 #![tactic(auto)]
 
 use frames::Frame;
+use std::io;
 
-fn tell(text: &[u8]) {
+fn tell(out: &mut impl io::Write, text: &[u8]) -> io::Result<()> {
     let mut line = [0u8; 80];
     let end = lines::line_on(text, &mut line);
-    io::write_all(1, &line[..end]);
+    out.write_all(&line[..end])
 }
 
 // One frame at a time: a frame ends after it began, so the loop does.
-fn tell_all(input: &[u8]) {
+fn tell_all(out: &mut impl io::Write, input: &[u8]) -> io::Result<()> {
     let mut at = 0;
     loop {
         let frame = frames::frame_at(input, at);
         match frame {
             Frame::Text { start, end, next } => {
-                tell(&input[start..end]);
+                tell(out, &input[start..end])?;
                 at = next;
             }
-            Frame::Nothing => return,
+            Frame::Nothing => return Ok(()),
         }
     }
 }
 
-fn main() {
+fn main(rt: HostRuntime) -> io::Result<()> {
     let mut buffer = frames::space();
-    let n = io::read_full(0, &mut buffer);
-    tell_all(&buffer[..n]);
+    let n = streams::read_full(&mut rt.stdin(), &mut buffer)?;
+    tell_all(&mut rt.stdout(), &buffer[..n])
 }

@@ -7,6 +7,7 @@ use details::places::{name_at, opening};
 use lines::put::put_bytes;
 use loader::Verdict;
 use rules::names::{name_of, stands_at};
+use std::io;
 use token::Token;
 use wording::write::{byte_at, from_one, write};
 
@@ -82,13 +83,13 @@ fn was_left_out(text: &[u8], rest: &[u8], place: usize) -> bool {
     false
 }
 
-fn tell(text: &[u8], next: Next, first: bool) {
+fn tell(out: &mut impl io::Write, text: &[u8], next: Next, first: bool) -> io::Result<()> {
     if first {
-        write(b"\nfurther, with what is broken left out:\n");
+        write(out, b"\nfurther, with what is broken left out:\n")?;
     }
-    show_position(text, next.place);
-    write(b": ");
-    show_rule(next.rule);
+    show_position(out, text, next.place)?;
+    write(out, b": ")?;
+    show_rule(out, next.rule)
 }
 
 // Leaves out the declaration that a place lies in.
@@ -99,26 +100,27 @@ fn leave_out(rest: &mut [u8], text: &[u8], place: usize) {
 }
 
 // A broken heading is told alone: nothing can be judged without it.
-pub fn show_further(text: &[u8], place: usize) {
+pub fn show_further(out: &mut impl io::Write, text: &[u8], place: usize) -> io::Result<()> {
     let mut store = [b' '; 8192];
     let mut here = place;
     let mut first = true;
     let mut left = DECLARATIONS;
     if 8192 < text.len() {
-        return;
+        return Ok(());
     }
     put_bytes(&mut store, 0, text);
     while 0 < left {
         leave_out(&mut store, text, here);
         let next = next_broken(name_of(&store, 0, text.len()));
         if (next.rule == 0) | (text.len() <= opening(text, here)) {
-            return;
+            return Ok(());
         }
         if (next.rule != 7) | !was_left_out(text, &store, next.place) {
-            tell(text, next, first);
+            tell(out, text, next, first)?;
             first = false;
         }
         here = next.place;
         left -= 1;
     }
+    Ok(())
 }

@@ -12,9 +12,11 @@ mod source;
 
 use loader::Verdict;
 use rules::Judging;
+use std::io;
 use wording::write::write;
 
 fn show_refused(
+    out: &mut impl io::Write,
     text: &[u8],
     judging: Judging,
     parameters: &[u32],
@@ -22,30 +24,33 @@ fn show_refused(
     variables: &[u32],
     rule: u32,
     place: usize,
-) {
+) -> io::Result<()> {
     let fault = fault::fault_place(text, registers, variables, rule, place);
-    source::show_position(text, place);
-    write(b"\n");
-    rule::show_rule(rule);
-    why::show_why(text, judging, parameters, registers, variables, rule, place);
-    source::show_source(text, place, fault);
+    source::show_position(out, text, place)?;
+    write(out, b"\n")?;
+    rule::show_rule(out, rule)?;
+    why::show_why(
+        out, text, judging, parameters, registers, variables, rule, place,
+    )?;
+    source::show_source(out, text, place, fault)?;
     if (6 <= rule) & (rule <= 15) {
-        further::show_further(text, place);
+        further::show_further(out, text, place)?;
     }
-    section::show_section(rule);
+    section::show_section(out, rule)
 }
 
 // The tables that loading leaves empty where it refuses are filled again up to the broken rule.
-fn explain(text: &[u8], verdict: Verdict) {
+fn explain(out: &mut impl io::Write, text: &[u8], verdict: Verdict) -> io::Result<()> {
     let mut parameters = [0u32; 577];
     let mut registers = [0u32; 961];
     let mut variables = [0u32; 7553];
     let judging = details::judged::judge_all(text, &mut parameters, &mut registers, &mut variables);
     match verdict {
         Verdict::Accepted(_, _, _) => {
-            map::show_map(text, judging, &parameters, &registers, &variables)
+            map::show_map(out, text, judging, &parameters, &registers, &variables)
         }
         Verdict::Refused(rule, place) => show_refused(
+            out,
             text,
             judging,
             &parameters,
@@ -57,20 +62,19 @@ fn explain(text: &[u8], verdict: Verdict) {
     }
 }
 
-fn tell(text: &[u8]) {
+fn tell(out: &mut impl io::Write, text: &[u8]) -> io::Result<()> {
     let mut line = [0u8; 80];
     let end = lines::line_on(text, &mut line);
-    write(&line[..end]);
+    write(out, &line[..end])?;
     if 8192 < text.len() {
-        rule::show_rule(2);
-        section::show_section(2);
-        return;
+        rule::show_rule(out, 2)?;
+        return section::show_section(out, 2);
     }
-    explain(text, lines::verdict_on(text));
+    explain(out, text, lines::verdict_on(text))
 }
 
-fn main() {
+fn main(rt: HostRuntime) -> io::Result<()> {
     let mut buffer = [0u8; 8193];
-    let n = io::read_full(0, &mut buffer);
-    tell(&buffer[..n]);
+    let n = streams::read_full(&mut rt.stdin(), &mut buffer)?;
+    tell(&mut rt.stdout(), &buffer[..n])
 }

@@ -2,6 +2,7 @@
 // another place. A long line is cut around them.
 use details::places::{line_start, lines_before};
 use rules::names::name_of;
+use std::io;
 use wording::write::{byte_at, from_one, say_number, span, write};
 
 // How much of a line is shown, and how much of that before the place.
@@ -60,87 +61,126 @@ fn character(bytes: &[u8], k: usize) -> usize {
 
 // The character at a place, or a question mark for a byte that begins none, or a blank as wide as either; how many
 // bytes that takes.
-fn show_character(bytes: &[u8], k: usize, blank: bool) -> usize {
+fn show_character(
+    out: &mut impl io::Write,
+    bytes: &[u8],
+    k: usize,
+    blank: bool,
+) -> io::Result<usize> {
     let n = character(bytes, k);
     if blank & (byte_at(bytes, k) != 9) {
-        write(b" ");
+        write(out, b" ")?;
     } else if n == 0 {
-        write(b"?");
+        write(out, b"?")?;
     } else {
-        write(name_of(bytes, k, n));
+        write(out, name_of(bytes, k, n))?;
     }
-    n
+    Ok(n)
 }
 
 // Bytes of a line, or blanks as wide as they, to stand before the caret.
-fn show_bytes(bytes: &[u8], blank: bool) {
+fn show_bytes(out: &mut impl io::Write, bytes: &[u8], blank: bool) -> io::Result<()> {
     let mut k = 0;
     let mut skip = 0;
     while k < bytes.len() {
         if skip == 0 {
-            skip = show_character(bytes, k, blank);
+            skip = show_character(out, bytes, k, blank)?;
         }
         skip = span(1, skip);
         k += 1;
     }
+    Ok(())
 }
 
 // The bytes from one place to another, or blanks as wide as they.
-fn show_between(text: &[u8], from: usize, to: usize, blank: bool) {
-    show_bytes(name_of(text, from, span(from, to)), blank);
+fn show_between(
+    out: &mut impl io::Write,
+    text: &[u8],
+    from: usize,
+    to: usize,
+    blank: bool,
+) -> io::Result<()> {
+    show_bytes(out, name_of(text, from, span(from, to)), blank)
 }
 
 // Carets under two places of a line that is shown from `from` on; the second only if it lies behind the first, on what
 // is shown.
-fn show_carets(text: &[u8], from: usize, place: usize, fault: usize, to: usize) {
-    show_between(text, from, place, true);
-    write(b"^");
+fn show_carets(
+    out: &mut impl io::Write,
+    text: &[u8],
+    from: usize,
+    place: usize,
+    fault: usize,
+    to: usize,
+) -> io::Result<()> {
+    show_between(out, text, from, place, true)?;
+    write(out, b"^")?;
     if (place < fault) & (fault < to) {
-        show_between(text, from_one(place), fault, true);
-        write(b"^");
+        show_between(out, text, from_one(place), fault, true)?;
+        write(out, b"^")?;
     }
-    write(b"\n");
+    write(out, b"\n")
 }
 
 // A line from one place to another, with three dots where it is cut.
-fn show_line(text: &[u8], start: usize, from: usize, to: usize, end: usize) {
-    write(b"\n    ");
+fn show_line(
+    out: &mut impl io::Write,
+    text: &[u8],
+    start: usize,
+    from: usize,
+    to: usize,
+    end: usize,
+) -> io::Result<()> {
+    write(out, b"\n    ")?;
     if start < from {
-        write(b"...");
+        write(out, b"...")?;
     }
-    show_between(text, from, to, false);
+    show_between(out, text, from, to, false)?;
     if to < end {
-        write(b"...");
+        write(out, b"...")?;
     }
-    write(b"\n    ");
+    write(out, b"\n    ")?;
     if start < from {
-        write(b"   ");
+        write(out, b"   ")?;
     }
+    Ok(())
 }
 
-fn show_marked(text: &[u8], place: usize, fault: usize) {
+fn show_marked(
+    out: &mut impl io::Write,
+    text: &[u8],
+    place: usize,
+    fault: usize,
+) -> io::Result<()> {
     let start = line_start(text, place);
     let end = script::line_end(text, place);
     let long = (SHOWN < span(start, end)) & (BEFORE < span(start, place));
     let from = if long { span(BEFORE, place) } else { start };
     let to = span(span(SHOWN, span(from, end)), end);
-    show_line(text, start, from, to, end);
-    show_carets(text, from, place, fault, to);
+    show_line(out, text, start, from, to, end)?;
+    show_carets(out, text, from, place, fault, to)
 }
 
 // line L, column C
-pub fn show_position(text: &[u8], place: usize) {
-    say_number(b"line #", from_one(lines_before(text, place)));
+pub fn show_position(out: &mut impl io::Write, text: &[u8], place: usize) -> io::Result<()> {
+    say_number(out, b"line #", from_one(lines_before(text, place)))?;
     say_number(
+        out,
         b", column #",
         from_one(span(line_start(text, place), place)),
-    );
+    )
 }
 
 // The place's line, and the fault's where that is another.
-pub fn show_source(text: &[u8], place: usize, fault: usize) {
-    show_marked(text, place, fault);
+pub fn show_source(
+    out: &mut impl io::Write,
+    text: &[u8],
+    place: usize,
+    fault: usize,
+) -> io::Result<()> {
+    show_marked(out, text, place, fault)?;
     if (fault < text.len()) & (line_start(text, fault) != line_start(text, place)) {
-        show_marked(text, fault, fault);
+        show_marked(out, text, fault, fault)?;
     }
+    Ok(())
 }

@@ -2,6 +2,7 @@
 use details::entries::{parameter_name, piece_count, piece_of, register_name};
 use details::holders::mentioned_before;
 use rules::words::narrow;
+use std::io;
 use tables::Part;
 use wording::parts::{port_of, show_bracket, show_place, top_bit};
 use wording::write::{span, write};
@@ -38,17 +39,18 @@ fn is_wide(
 }
 
 // Goes on in the line, or in the next one where the list is wide.
-fn show_break(wide: bool, sign: &[u8]) {
-    write(sign);
+fn show_break(out: &mut impl io::Write, wide: bool, sign: &[u8]) -> io::Result<()> {
+    write(out, sign)?;
     if wide {
-        write(b"\n       ");
+        write(out, b"\n       ")
     } else {
-        write(b" ");
+        write(out, b" ")
     }
 }
 
 // high[3..0], or high where it is whole
 fn show_bits(
+    out: &mut impl io::Write,
     text: &[u8],
     parameters: &[u32],
     registers: &[u32],
@@ -56,23 +58,26 @@ fn show_bits(
     v: u32,
     part: Part,
     k: u32,
-) {
+) -> io::Result<()> {
     let piece = piece_of(variables, v, part, k);
     let name = register_name(text, registers, narrow(piece.register));
     if 0 < k {
         show_break(
+            out,
             is_wide(text, parameters, registers, variables, v, part),
             b" #",
-        );
+        )?;
     }
-    write(name);
+    write(out, name)?;
     if (piece.high != top_bit(registers, narrow(piece.register))) | (0 < piece.low) {
-        show_bracket(piece.high, piece.low);
+        show_bracket(out, piece.high, piece.low)?;
     }
+    Ok(())
 }
 
 // base @ 0, then base @ 1: each register once, in order of first mention
 fn show_access(
+    out: &mut impl io::Write,
     text: &[u8],
     parameters: &[u32],
     registers: &[u32],
@@ -80,22 +85,24 @@ fn show_access(
     v: u32,
     part: Part,
     k: u32,
-) {
+) -> io::Result<()> {
     if mentioned_before(variables, v, part, k) {
-        return;
+        return Ok(());
     }
     let piece = piece_of(variables, v, part, k);
     let i = narrow(piece.register);
     if 0 < k {
         show_break(
+            out,
             is_wide(text, parameters, registers, variables, v, part),
             b", then",
-        );
+        )?;
     }
-    show_place(text, parameters, registers, i, part);
+    show_place(out, text, parameters, registers, i, part)
 }
 
 fn show_one(
+    out: &mut impl io::Write,
     text: &[u8],
     parameters: &[u32],
     registers: &[u32],
@@ -104,14 +111,15 @@ fn show_one(
     part: Part,
     shown: Shown,
     k: u32,
-) {
+) -> io::Result<()> {
     match shown {
-        Shown::Bits => show_bits(text, parameters, registers, variables, v, part, k),
-        Shown::Access => show_access(text, parameters, registers, variables, v, part, k),
+        Shown::Bits => show_bits(out, text, parameters, registers, variables, v, part, k),
+        Shown::Access => show_access(out, text, parameters, registers, variables, v, part, k),
     }
 }
 
 pub fn show_each(
+    out: &mut impl io::Write,
     text: &[u8],
     parameters: &[u32],
     registers: &[u32],
@@ -119,11 +127,14 @@ pub fn show_each(
     v: u32,
     part: Part,
     shown: Shown,
-) {
+) -> io::Result<()> {
     let n = piece_count(variables, v, part);
     let mut k: u32 = 0;
     while k < n {
-        show_one(text, parameters, registers, variables, v, part, shown, k);
+        show_one(
+            out, text, parameters, registers, variables, v, part, shown, k,
+        )?;
         k += 1;
     }
+    Ok(())
 }

@@ -6,6 +6,7 @@ use details::entries::{count_of, register_width, register_word, variable_name, v
 use details::rows::{holder_of, run_below, weight_of};
 use rules::names::name_of;
 use rules::words::narrow;
+use std::io;
 use tables::Part;
 use wording::parts::show_bracket;
 use wording::write::{blanks, say_number, span, write};
@@ -27,40 +28,53 @@ fn weights_columns(high: usize, low: usize) -> usize {
 }
 
 // A name in so many columns, cut where it is longer; how many it takes.
-fn show_label(name: &[u8], columns: usize) -> usize {
+fn show_label(out: &mut impl io::Write, name: &[u8], columns: usize) -> io::Result<usize> {
     if name.len() < columns {
-        write(b" ");
-        write(name);
-        return name.len() + 1;
+        write(out, b" ")?;
+        write(out, name)?;
+        return Ok(name.len() + 1);
     }
     if name.len() == columns {
-        write(name);
+        write(out, name)?;
     } else if 0 < columns {
-        write(name_of(name, 0, columns - 1));
-        write(b"~");
+        write(out, name_of(name, 0, columns - 1))?;
+        write(out, b"~")?;
     }
-    columns
+    Ok(columns)
 }
 
 // A name, and which of its bits are here, unless all are.
-fn show_cell(name: &[u8], whole: bool, high: usize, low: usize, columns: usize) {
+fn show_cell(
+    out: &mut impl io::Write,
+    name: &[u8],
+    whole: bool,
+    high: usize,
+    low: usize,
+    columns: usize,
+) -> io::Result<()> {
     let weights = if whole { 0 } else { weights_columns(high, low) };
-    let used = show_label(name, span(weights, columns));
+    let used = show_label(out, name, span(weights, columns))?;
     if !whole {
-        show_bracket(high, low);
+        show_bracket(out, high, low)?;
     }
-    blanks(span(weights, span(used, columns)));
-    write(b"|");
+    blanks(out, span(weights, span(used, columns)))?;
+    write(out, b"|")
 }
 
 // A bit that no variable holds: `0`, `1` or `*`.
-fn show_fixed(registers: &[u32], i: u32, part: Part, b: usize) {
+fn show_fixed(
+    out: &mut impl io::Write,
+    registers: &[u32],
+    i: u32,
+    part: Part,
+    b: usize,
+) -> io::Result<()> {
     if bits::bit_of(register_word(registers, i, part, 5), b) {
-        write(b"    1   |");
+        write(out, b"    1   |")
     } else if bits::bit_of(register_word(registers, i, part, 4), b) {
-        write(b"    0   |");
+        write(out, b"    0   |")
     } else {
-        write(b"    *   |");
+        write(out, b"    *   |")
     }
 }
 
@@ -90,6 +104,7 @@ fn run_in_row(variables: &[u32], i: u32, part: Part, left: u32, lowest: u32) -> 
 
 // The cell of variable v whose highest bit is below `left`; how many bits it takes.
 fn show_held(
+    out: &mut impl io::Write,
     text: &[u8],
     variables: &[u32],
     v: u32,
@@ -97,18 +112,19 @@ fn show_held(
     part: Part,
     left: u32,
     lowest: u32,
-) -> u32 {
+) -> io::Result<u32> {
     let run = run_in_row(variables, i, part, left, lowest);
     let high = weight_of(variables, part, i, less(left, 1));
     let low = weight_of(variables, part, i, less(left, run));
     let whole = run as usize == variable_width(variables, v);
     let name = variable_name(text, variables, v);
-    show_cell(name, whole, high, low, cell_columns(run));
-    run
+    show_cell(out, name, whole, high, low, cell_columns(run))?;
+    Ok(run)
 }
 
 // The cell whose highest bit is below `left`; how many bits it takes.
 fn show_next(
+    out: &mut impl io::Write,
     text: &[u8],
     registers: &[u32],
     variables: &[u32],
@@ -116,14 +132,14 @@ fn show_next(
     part: Part,
     left: u32,
     lowest: u32,
-) -> u32 {
+) -> io::Result<u32> {
     let top = less(left, 1);
     let v = holder_of(variables, part, i, top);
     if v < count_of(variables) {
-        show_held(text, variables, v, i, part, left, lowest)
+        show_held(out, text, variables, v, i, part, left, lowest)
     } else {
-        show_fixed(registers, i, part, top as usize);
-        1
+        show_fixed(out, registers, i, part, top as usize)?;
+        Ok(1)
     }
 }
 
@@ -139,22 +155,22 @@ fn lowest_of(left: u32) -> u32
 }
 
 //   r w |, or r w +8| where a bit's number is that of its column and 8 more
-fn show_head(marks: &[u8], lowest: u32) {
+fn show_head(out: &mut impl io::Write, marks: &[u8], lowest: u32) -> io::Result<()> {
     if lowest == 0 {
-        write(b"  ");
-        write(marks);
-        write(b" |");
-        return;
+        write(out, b"  ")?;
+        write(out, marks)?;
+        return write(out, b" |");
     }
-    write(marks);
+    write(out, marks)?;
     if lowest < 10 {
-        write(b" ");
+        write(out, b" ")?;
     }
-    say_number(b"+#|", lowest as usize);
+    say_number(out, b"+#|", lowest as usize)
 }
 
 // The cells of the row that ends below `left`.
 fn show_cells(
+    out: &mut impl io::Write,
     text: &[u8],
     registers: &[u32],
     variables: &[u32],
@@ -162,28 +178,30 @@ fn show_cells(
     part: Part,
     left: u32,
     lowest: u32,
-) {
+) -> io::Result<()> {
     let mut here = left;
     while lowest < here {
-        let run = show_next(text, registers, variables, i, part, here, lowest);
+        let run = show_next(out, text, registers, variables, i, part, here, lowest)?;
         here = less(here, run);
     }
-    write(b"\n");
+    write(out, b"\n")
 }
 
 pub fn show_row(
+    out: &mut impl io::Write,
     text: &[u8],
     registers: &[u32],
     variables: &[u32],
     i: u32,
     part: Part,
     marks: &[u8],
-) {
+) -> io::Result<()> {
     let mut left = narrow(register_width(registers, i));
     while 0 < left {
         let lowest = lowest_of(left);
-        show_head(marks, lowest);
-        show_cells(text, registers, variables, i, part, left, lowest);
+        show_head(out, marks, lowest)?;
+        show_cells(out, text, registers, variables, i, part, left, lowest)?;
         left = lowest;
     }
+    Ok(())
 }

@@ -6,6 +6,7 @@
 ghost use Rattle.std.specs.Prelude.{◌≡◌, ◌≤◌, ◌+◌, ◌<◌, ◌^◌, length, get_or};
 ghost use Rattle.readings.specs.Records.{four_at, eight_at, line_at};
 
+use std::io;
 use units::Line;
 
 const RECORD: usize = 20;
@@ -13,26 +14,26 @@ const RECORD: usize = 20;
 // So many records are read at a time.
 const BLOCK: usize = 20480;
 
-fn say(words: &[u8]) {
-    io::write_all(1, words);
+fn say(out: &mut impl io::Write, words: &[u8]) -> io::Result<()> {
+    out.write_all(words)
 }
 
-fn tell_bits(bits: u64) {
+fn tell_bits(out: &mut impl io::Write, bits: u64) -> io::Result<()> {
     let digits = script::digits_of(bits);
-    say(&digits);
-    say(b"\n");
+    say(out, &digits)?;
+    say(out, b"\n")
 }
 
-fn tell_refusal(number: usize) {
-    say(b"refused ");
-    io::print_decimal(1, number as u64);
-    say(b"\n");
+fn tell_refusal(out: &mut impl io::Write, number: usize) -> io::Result<()> {
+    say(out, b"refused ")?;
+    write!(out, "{number}")?;
+    say(out, b"\n")
 }
 
-fn tell(line: Line) {
+fn tell(out: &mut impl io::Write, line: Line) -> io::Result<()> {
     match line {
-        Line::Bits(bits) => tell_bits(bits),
-        Line::Refusal(number) => tell_refusal(number),
+        Line::Bits(bits) => tell_bits(out, bits),
+        Line::Refusal(number) => tell_refusal(out, number),
     }
 }
 
@@ -88,24 +89,26 @@ fn line_at(input: &[u8], at: usize) -> Line
 }
 
 // One record at a time, as long as a whole one is left.
-fn tell_all(input: &[u8]) {
+fn tell_all(out: &mut impl io::Write, input: &[u8]) -> io::Result<()> {
     let mut at: usize = 0;
     while RECORD <= input.len() - at {
-        tell(line_at(input, at));
+        tell(out, line_at(input, at))?;
         at += RECORD;
     }
+    Ok(())
 }
 
 // Block by block, until one is not full. More blocks than this no input has.
-fn main() {
+fn main(rt: HostRuntime) -> io::Result<()> {
     let mut block = [0u8; BLOCK];
     let mut blocks: u64 = 18446744073709551615;
     while 0 < blocks {
-        let n = io::read_full(0, &mut block);
-        tell_all(&block[..n]);
+        let n = streams::read_full(&mut rt.stdin(), &mut block)?;
+        tell_all(&mut rt.stdout(), &block[..n])?;
         if n < BLOCK {
-            return;
+            return Ok(());
         }
         blocks -= 1;
     }
+    Ok(())
 }

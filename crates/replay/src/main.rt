@@ -8,10 +8,11 @@ mod fields;
 mod session;
 mod show;
 
-ghost use Rattle.std.specs.Prelude.{◌≤◌};
+ghost use Rattle.std.specs.Prelude.{◌≤◌, IfOk};
 
 use frames::Frame;
 use session::Session;
+use std::io;
 
 fn is_text(frame: Frame) -> bool {
     match frame {
@@ -26,6 +27,7 @@ fn is_text(frame: Frame) -> bool {
 
 // Tells what a line is answered with.
 fn hear(
+    out: &mut impl io::Write,
     line: &[u8],
     text: &[u8],
     parameters: &[u32],
@@ -34,18 +36,21 @@ fn hear(
     kept: &mut [u32],
     marks: &mut [u8],
     session: Session,
-) -> Session {
+) -> io::Result<Session> {
     let turn = session::answer(
         line, text, parameters, registers, variables, kept, marks, session,
     );
     let after = turn.session;
     let reply = turn.reply;
-    show::reply(reply, parameters, registers, variables, kept, marks, after);
-    after
+    show::reply(
+        out, reply, parameters, registers, variables, kept, marks, after,
+    )?;
+    Ok(after)
 }
 
 // The calls over a text, up to the next text or the end of the input. Each turn takes a line, so the loop ends.
 fn run_calls(
+    out: &mut impl io::Write,
     input: &[u8],
     from: usize,
     text: &[u8],
@@ -54,18 +59,19 @@ fn run_calls(
     variables: &[u32],
     kept: &mut [u32],
     marks: &mut [u8],
-) -> usize
-    ensures { from ≤ result }
+) -> io::Result<usize>
+    ensures { IfOk result (λ at. from ≤ at) }
 {
     let mut now = session::begin();
     let mut at = from;
     while at < input.len() {
         let frame = frames::frame_at(input, at);
         if is_text(frame) {
-            return at;
+            return Ok(at);
         }
         let end = script::line_end(input, at);
         now = hear(
+            out,
             &input[at..end],
             text,
             parameters,
@@ -74,21 +80,22 @@ fn run_calls(
             kept,
             marks,
             now,
-        );
+        )?;
         at = end + 1;
     }
-    at
+    Ok(at)
 }
 
 // The line that the verdict program writes. It is made over tables of its own.
-fn tell_verdict(text: &[u8]) {
+fn tell_verdict(out: &mut impl io::Write, text: &[u8]) -> io::Result<()> {
     let mut line = [0u8; 80];
     let end = lines::line_on(text, &mut line);
-    io::write_all(1, &line[..end]);
+    out.write_all(&line[..end])
 }
 
 // Tells the verdict on a text, and runs its calls if it is accepted. Answers where to go on.
 fn run_script(
+    out: &mut impl io::Write,
     input: &[u8],
     from: usize,
     text: &[u8],
@@ -97,35 +104,37 @@ fn run_script(
     variables: &mut [u32],
     kept: &mut [u32],
     marks: &mut [u8],
-) -> usize
-    ensures { from ≤ result }
+) -> io::Result<usize>
+    ensures { IfOk result (λ at. from ≤ at) }
 {
-    tell_verdict(text);
+    tell_verdict(out, text)?;
     let verdict = loader::load(text, parameters, registers, variables);
     if loader::whole::is_accepted(verdict) {
         run_calls(
-            input, from, text, parameters, registers, variables, kept, marks,
+            out, input, from, text, parameters, registers, variables, kept, marks,
         )
     } else {
-        from
+        Ok(from)
     }
 }
 
 // One script at a time. What stands behind a refused text, or before the first text, is passed over line by line.
 fn run(
+    out: &mut impl io::Write,
     input: &[u8],
     parameters: &mut [u32],
     registers: &mut [u32],
     variables: &mut [u32],
     kept: &mut [u32],
     marks: &mut [u8],
-) {
+) -> io::Result<()> {
     let mut at = 0;
     while at < input.len() {
         let frame = frames::frame_at(input, at);
         match frame {
             Frame::Text { start, end, next } => {
                 at = run_script(
+                    out,
                     input,
                     next,
                     &input[start..end],
@@ -134,7 +143,7 @@ fn run(
                     variables,
                     kept,
                     marks,
-                );
+                )?;
             }
             Frame::Nothing => {
                 let end = script::line_end(input, at);
@@ -142,22 +151,24 @@ fn run(
             }
         }
     }
+    Ok(())
 }
 
-fn main() {
+fn main(rt: HostRuntime) -> io::Result<()> {
     let mut buffer = frames::space();
-    let n = io::read_full(0, &mut buffer);
+    let n = streams::read_full(&mut rt.stdin(), &mut buffer)?;
     let mut parameters = [0u32; 577];
     let mut registers = [0u32; 961];
     let mut variables = [0u32; 7553];
     let mut kept = [0u32; 64];
     let mut marks = [0u8; 128];
     run(
+        &mut rt.stdout(),
         &buffer[..n],
         &mut parameters,
         &mut registers,
         &mut variables,
         &mut kept,
         &mut marks,
-    );
+    )
 }

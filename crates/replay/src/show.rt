@@ -5,39 +5,40 @@ use crate::session::{ALL, Reply, Session, lent};
 use calibrated::InUnits;
 use rules::Found;
 use station::{Access, Answer, Operation};
+use std::io;
 use tables::words::word;
 
 const FIGURES: [u8; 16] = *b"0123456789ABCDEF";
 
-fn say(words: &[u8]) {
-    io::write_all(1, words);
+fn say(out: &mut impl io::Write, words: &[u8]) -> io::Result<()> {
+    out.write_all(words)
 }
 
-fn number_after(words: &[u8], number: usize) {
-    say(words);
-    io::print_decimal(1, number as u64);
+fn number_after(out: &mut impl io::Write, words: &[u8], number: usize) -> io::Result<()> {
+    say(out, words)?;
+    write!(out, "{number}")
 }
 
 // The last eight bits of a number as two hexadecimal digits, in upper case.
-fn two_digits(number: usize) {
+fn two_digits(out: &mut impl io::Write, number: usize) -> io::Result<()> {
     let high = number / 16 % 16;
     let low = number % 16;
     let pair = [FIGURES[high], FIGURES[low]];
-    say(&pair);
+    say(out, &pair)
 }
 
 // A number of a register as hexadecimal digits: two for every eight bits of its width.
-fn hex_after(words: &[u8], number: u32, width: usize) {
-    say(words);
+fn hex_after(out: &mut impl io::Write, words: &[u8], number: u32, width: usize) -> io::Result<()> {
+    say(out, words)?;
     let number = number as usize;
     if 16 < width {
-        two_digits(number / 16777216);
-        two_digits(number / 65536);
+        two_digits(out, number / 16777216)?;
+        two_digits(out, number / 65536)?;
     }
     if 8 < width {
-        two_digits(number / 256);
+        two_digits(out, number / 256)?;
     }
-    two_digits(number);
+    two_digits(out, number)
 }
 
 // The width of a parameter, which its registers have too. There are at most 16.
@@ -67,128 +68,144 @@ fn below_zero(value: i64) -> u64
     (-1 - value) as u64
 }
 
-fn value_after(words: &[u8], value: i64) {
-    say(words);
+fn value_after(out: &mut impl io::Write, words: &[u8], value: i64) -> io::Result<()> {
+    say(out, words)?;
     if value < 0 {
-        say(b"-");
-        io::print_decimal(1, below_zero(value) + 1);
+        say(out, b"-")?;
+        write!(out, "{}", below_zero(value) + 1)
     } else {
-        io::print_decimal(1, value as u64);
+        write!(out, "{}", value as u64)
     }
 }
 
-fn access(offered: Access, parameters: &[u32]) {
+fn access(out: &mut impl io::Write, offered: Access, parameters: &[u32]) -> io::Result<()> {
     let direction = offered.direction;
     match direction {
-        tables::Part::Read => say(b"offer read "),
-        tables::Part::Write => say(b"offer write "),
+        tables::Part::Read => say(out, b"offer read ")?,
+        tables::Part::Write => say(out, b"offer write ")?,
     }
-    number_after(b"", offered.parameter);
-    number_after(b" ", offered.offset);
+    number_after(out, b"", offered.parameter)?;
+    number_after(out, b" ", offered.offset)?;
     let width = port_width(parameters, offered.parameter);
-    hex_after(b" 0x", offered.byte, width);
+    hex_after(out, b" 0x", offered.byte, width)
 }
 
-fn answer(given: Answer, parameters: &[u32]) {
+fn answer(out: &mut impl io::Write, given: Answer, parameters: &[u32]) -> io::Result<()> {
     match given {
-        Answer::Offer(offered) => access(offered, parameters),
+        Answer::Offer(offered) => access(out, offered, parameters)?,
         Answer::Done { value, accesses } => {
-            value_after(b"done ", value);
-            number_after(b" ", accesses);
+            value_after(out, b"done ", value)?;
+            number_after(out, b" ", accesses)?;
         }
-        Answer::Opened => say(b"opened"),
-        Answer::Abandoned => say(b"abandoned"),
-        Answer::Refused(number) => number_after(b"refused ", number),
+        Answer::Opened => say(out, b"opened")?,
+        Answer::Abandoned => say(out, b"abandoned")?,
+        Answer::Refused(number) => number_after(out, b"refused ", number)?,
         Answer::Stopped { number, register } => {
-            number_after(b"refused ", number);
-            number_after(b" ", register);
+            number_after(out, b"refused ", number)?;
+            number_after(out, b" ", register)?;
         }
     }
-    say(b"\n");
+    say(out, b"\n")
 }
 
-fn told(given: InUnits, parameters: &[u32]) {
+fn told(out: &mut impl io::Write, given: InUnits, parameters: &[u32]) -> io::Result<()> {
     match given {
         InUnits::Reading { value, accesses } => {
             let digits = script::digits_of(units::bits_of(value));
-            say(b"done ");
-            say(&digits);
-            number_after(b" ", accesses);
-            say(b"\n");
+            say(out, b"done ")?;
+            say(out, &digits)?;
+            number_after(out, b" ", accesses)?;
+            say(out, b"\n")
         }
         InUnits::Stopped(number) => {
-            number_after(b"refused ", number);
-            say(b"\n");
+            number_after(out, b"refused ", number)?;
+            say(out, b"\n")
         }
-        InUnits::Same(same) => answer(same, parameters),
+        InUnits::Same(same) => answer(out, same, parameters),
     }
 }
 
-fn looked(found: Found) {
+fn looked(out: &mut impl io::Write, found: Found) -> io::Result<()> {
     match found {
-        Found::At(v) => number_after(b"variable ", v),
-        Found::Nothing => say(b"none"),
+        Found::At(v) => number_after(out, b"variable ", v)?,
+        Found::Nothing => say(out, b"none")?,
     }
-    say(b"\n");
+    say(out, b"\n")
 }
 
-fn three_after(words: &[u8], variable: usize, step: usize, pattern: usize) {
-    number_after(words, variable);
-    number_after(b" ", step);
-    number_after(b" ", pattern);
+fn three_after(
+    out: &mut impl io::Write,
+    words: &[u8],
+    variable: usize,
+    step: usize,
+    pattern: usize,
+) -> io::Result<()> {
+    number_after(out, words, variable)?;
+    number_after(out, b" ", step)?;
+    number_after(out, b" ", pattern)
 }
 
-fn operation(held: Operation) {
+fn operation(out: &mut impl io::Write, held: Operation) -> io::Result<()> {
     match held {
-        Operation::Idle => say(b" operation idle"),
+        Operation::Idle => say(out, b" operation idle"),
         Operation::Reading {
             variable,
             step,
             gathered,
-        } => three_after(b" operation read ", variable, step, gathered),
+        } => three_after(out, b" operation read ", variable, step, gathered),
         Operation::Writing {
             variable,
             step,
             value,
-        } => three_after(b" operation write ", variable, step, value),
+        } => three_after(out, b" operation write ", variable, step, value),
     }
 }
 
-fn numbers_of(list: &[u32], registers: &[u32]) {
+fn numbers_of(out: &mut impl io::Write, list: &[u32], registers: &[u32]) -> io::Result<()> {
     let mut i = 0;
     while i < list.len() {
-        hex_after(b" ", list[i], register_width(registers, i));
+        hex_after(out, b" ", list[i], register_width(registers, i))?;
         i += 1;
     }
+    Ok(())
 }
 
-fn mark_after(words: &[u8], mark: u8) {
-    number_after(words, mark as usize);
+fn mark_after(out: &mut impl io::Write, words: &[u8], mark: u8) -> io::Result<()> {
+    number_after(out, words, mark as usize)
 }
 
-fn marks_of(list: &[u8]) {
+fn marks_of(out: &mut impl io::Write, list: &[u8]) -> io::Result<()> {
     let mut i = 0;
     while i < list.len() {
-        mark_after(b" ", list[i]);
+        mark_after(out, b" ", list[i])?;
         i += 1;
     }
+    Ok(())
 }
 
 // All of the record and the marks, whatever is lent.
-fn state(registers: &[u32], variables: &[u32], kept: &[u32], marks: &[u8], session: Session) {
+fn state(
+    out: &mut impl io::Write,
+    registers: &[u32],
+    variables: &[u32],
+    kept: &[u32],
+    marks: &[u8],
+    session: Session,
+) -> io::Result<()> {
     let opened = session.opened;
     let held = lent(opened, ALL, word(registers, 0), kept.len());
     let marked = lent(opened, ALL, word(variables, 0), marks.len());
-    say(b"record");
-    numbers_of(&kept[..held], registers);
-    say(b" marks");
-    marks_of(&marks[..marked]);
+    say(out, b"record")?;
+    numbers_of(out, &kept[..held], registers)?;
+    say(out, b" marks")?;
+    marks_of(out, &marks[..marked])?;
     let in_hand = session.operation;
-    operation(in_hand);
-    say(b"\n");
+    operation(out, in_hand)?;
+    say(out, b"\n")
 }
 
 pub fn reply(
+    out: &mut impl io::Write,
     given: Reply,
     parameters: &[u32],
     registers: &[u32],
@@ -196,14 +213,14 @@ pub fn reply(
     kept: &[u32],
     marks: &[u8],
     session: Session,
-) {
+) -> io::Result<()> {
     match given {
-        Reply::Silence => say(b""),
-        Reply::Answered(answered) => told(answered, parameters),
-        Reply::Looked(found) => looked(found),
-        Reply::Stand => state(registers, variables, kept, marks, session),
-        Reply::Lent => say(b"lent\n"),
-        Reply::Held => say(b"held\n"),
-        Reply::Unknown => say(b"unknown\n"),
+        Reply::Silence => say(out, b""),
+        Reply::Answered(answered) => told(out, answered, parameters),
+        Reply::Looked(found) => looked(out, found),
+        Reply::Stand => state(out, registers, variables, kept, marks, session),
+        Reply::Lent => say(out, b"lent\n"),
+        Reply::Held => say(out, b"held\n"),
+        Reply::Unknown => say(out, b"unknown\n"),
     }
 }

@@ -4,91 +4,91 @@
 #![tactic(auto)]
 
 use frames::Frame;
+use std::io;
 use syntax::Step;
 use token::Token;
 
-fn number_after(word: &[u8], number: usize) {
-    io::write_all(1, word);
-    io::print_decimal(1, number as u64);
+fn number_after(out: &mut impl io::Write, word: &[u8], number: usize) -> io::Result<()> {
+    out.write_all(word)?;
+    write!(out, "{number}")
 }
 
 // A token's kind, its first byte's place, and the place behind it.
-fn item(kind: &[u8], place: usize, next: usize) {
-    number_after(kind, place);
-    number_after(b"..", next);
+fn item(out: &mut impl io::Write, kind: &[u8], place: usize, next: usize) -> io::Result<()> {
+    number_after(out, kind, place)?;
+    number_after(out, b"..", next)
 }
 
-fn show(t: Token, next: usize) {
+fn show(out: &mut impl io::Write, t: Token, next: usize) -> io::Result<()> {
     match t {
-        Token::Name(place, _) => item(b" name ", place, next),
-        Token::Word(place, _) => item(b" word ", place, next),
+        Token::Name(place, _) => item(out, b" name ", place, next),
+        Token::Word(place, _) => item(out, b" word ", place, next),
         Token::Number(place, value) => {
-            item(b" number ", place, next);
-            number_after(b"=", value as usize);
+            item(out, b" number ", place, next)?;
+            number_after(out, b"=", value as usize)
         }
-        Token::Bits(place, _) => item(b" bits ", place, next),
-        Token::Sign(place, _) => item(b" sign ", place, next),
-        Token::End(place) => number_after(b" end ", place),
-        Token::Bad(place) => number_after(b" bad ", place),
+        Token::Bits(place, _) => item(out, b" bits ", place, next),
+        Token::Sign(place, _) => item(out, b" sign ", place, next),
+        Token::End(place) => number_after(out, b" end ", place),
+        Token::Bad(place) => number_after(out, b" bad ", place),
     }
 }
 
 // One token at a time: each but the last takes some bytes, so the loop ends.
-fn show_tokens(text: &[u8]) {
+fn show_tokens(out: &mut impl io::Write, text: &[u8]) -> io::Result<()> {
     let mut at = 0;
     loop {
         let found = token::scan(text, at);
         let next = found.token;
-        show(next, found.next);
+        show(out, next, found.next)?;
         if token::goes_on(next) {
             at = found.next;
         } else {
-            io::write_all(1, b"\n");
-            return;
+            return out.write_all(b"\n");
         }
     }
 }
 
-fn show_reading(text: &[u8]) {
+fn show_reading(out: &mut impl io::Write, text: &[u8]) -> io::Result<()> {
     let outline = syntax::read_text(text);
     let step = outline.step;
     match step {
         Step::At(_) => {
-            number_after(b"reads ", outline.parameters);
-            number_after(b" ", outline.registers);
-            number_after(b" ", outline.variables);
+            number_after(out, b"reads ", outline.parameters)?;
+            number_after(out, b" ", outline.registers)?;
+            number_after(out, b" ", outline.variables)?;
         }
         Step::Refused(number, place) => {
-            number_after(b"refused ", number as usize);
-            number_after(b" ", place);
+            number_after(out, b"refused ", number as usize)?;
+            number_after(out, b" ", place)?;
         }
     }
-    io::write_all(1, b"\n");
+    out.write_all(b"\n")
 }
 
-fn show_text(text: &[u8]) {
-    io::write_all(1, b"tokens");
-    show_tokens(text);
-    show_reading(text);
+fn show_text(out: &mut impl io::Write, text: &[u8]) -> io::Result<()> {
+    out.write_all(b"tokens")?;
+    show_tokens(out, text)?;
+    show_reading(out, text)
 }
 
 // One frame at a time: a frame ends after it began, so the loop does.
-fn show_all(input: &[u8]) {
+fn show_all(out: &mut impl io::Write, input: &[u8]) -> io::Result<()> {
     let mut at = 0;
     loop {
         let frame = frames::frame_at(input, at);
         match frame {
             Frame::Text { start, end, next } => {
-                show_text(&input[start..end]);
+                show_text(out, &input[start..end])?;
                 at = next;
             }
-            Frame::Nothing => return,
+            Frame::Nothing => return Ok(()),
         }
     }
 }
 
-fn main() {
+fn main(rt: HostRuntime) -> io::Result<()> {
     let mut buffer = frames::space();
-    let n = io::read_full(0, &mut buffer);
-    show_all(&buffer[..n]);
+    let n = streams::read_full(&mut rt.stdin(), &mut buffer)?;
+    show_all(&mut rt.stdout(), &buffer[..n])
 }

@@ -13,8 +13,10 @@ mod slips;
 
 pub use pieces::is_faulty;
 use rules::Judging;
+use std::io;
 
 pub fn show_why(
+    out: &mut impl io::Write,
     text: &[u8],
     judging: Judging,
     parameters: &[u32],
@@ -22,14 +24,16 @@ pub fn show_why(
     variables: &[u32],
     rule: u32,
     place: usize,
-) {
+) -> io::Result<()> {
     if rule < 6 {
-        reading::show_reading(text, rule, place);
+        reading::show_reading(out, text, rule, place)
     } else if rule < 8 {
-        names::show_name(text, judging, parameters, registers, variables, rule, place);
+        names::show_name(
+            out, text, judging, parameters, registers, variables, rule, place,
+        )
     } else if rule < 11 {
-        ports::show_ports(text, parameters, registers, rule, place);
+        ports::show_ports(out, text, parameters, registers, rule, place)
     } else {
-        lists::show_lists(text, parameters, registers, variables, rule, place);
+        lists::show_lists(out, text, parameters, registers, variables, rule, place)
     }
 }

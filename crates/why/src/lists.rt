@@ -7,55 +7,80 @@ use details::entries::{
 use details::holders::{Shared, pulls_trigger};
 use details::search::{Test, first_in};
 use rules::words::narrow;
+use std::io;
 use tables::Part;
 use tables::pieces::bit_count;
 use wording::parts::{last, port_of, show_bit};
 use wording::write::{for_part, say, say_name, say_number, write};
 
 // 14: bit 4 of `r` is mapped already by `v` for reading
-fn show_taken(text: &[u8], registers: &[u32], variables: &[u32], part: Part) {
+fn show_taken(
+    out: &mut impl io::Write,
+    text: &[u8],
+    registers: &[u32],
+    variables: &[u32],
+    part: Part,
+) -> io::Result<()> {
     let v = last(variables);
     let bit = first_shared(variables, v, part, Shared::Bit);
     if bit < 4096 {
         let u = first_in(variables, Test::Shares(v, part, Shared::Bit, bit));
-        show_bit(text, registers, bit);
+        show_bit(out, text, registers, bit)?;
         say_name(
+            out,
             b" is mapped already by $",
             variable_name(text, variables, u),
-        );
-        for_part(part);
+        )?;
+        for_part(out, part)?;
     }
+    Ok(())
 }
 
-fn show_puller(text: &[u8], variables: &[u32], v: u32, part: Part) {
-    say_name(b" of $", variable_name(text, variables, v));
+fn show_puller(
+    out: &mut impl io::Write,
+    text: &[u8],
+    variables: &[u32],
+    v: u32,
+    part: Part,
+) -> io::Result<()> {
+    say_name(out, b" of $", variable_name(text, variables, v))?;
     if pulls_trigger(variables, part, v) {
-        write(b" (a trigger)");
+        write(out, b" (a trigger)")?;
     }
+    Ok(())
 }
 
 // 15: `r` holds bits of `v` (a trigger) and of `w` for reading
-fn show_pulled(text: &[u8], registers: &[u32], variables: &[u32], part: Part) {
+fn show_pulled(
+    out: &mut impl io::Write,
+    text: &[u8],
+    registers: &[u32],
+    variables: &[u32],
+    part: Part,
+) -> io::Result<()> {
     let v = last(variables);
     let register = first_shared(variables, v, part, Shared::Register);
     if register < 64 {
         let u = first_in(variables, Test::Shares(v, part, Shared::Register, register));
         say_name(
+            out,
             b"$ holds bits",
             register_name(text, registers, narrow(register)),
-        );
-        show_puller(text, variables, u, part);
-        write(b" and");
-        show_puller(text, variables, v, part);
-        for_part(part);
+        )?;
+        show_puller(out, text, variables, u, part)?;
+        write(out, b" and")?;
+        show_puller(out, text, variables, v, part)?;
+        for_part(out, part)?;
     }
+    Ok(())
 }
 
-fn show_width(width: usize) {
+fn show_width(out: &mut impl io::Write, width: usize) -> io::Result<()> {
     say_number(
+        out,
         b"its width is #, and only 8, 16 and 32 are allowed\n",
         width,
-    );
+    )
 }
 
 // Has register i this part, at a port of another width?
@@ -65,94 +90,124 @@ fn is_unlike(parameters: &[u32], registers: &[u32], i: u32, part: Part) -> bool 
 }
 
 // its width is 8, and that of its port `base` is 16
-fn show_unlike(text: &[u8], parameters: &[u32], registers: &[u32], i: u32, part: Part) {
+fn show_unlike(
+    out: &mut impl io::Write,
+    text: &[u8],
+    parameters: &[u32],
+    registers: &[u32],
+    i: u32,
+    part: Part,
+) -> io::Result<()> {
     let port = port_of(registers, i, part);
     let name = parameter_name(text, parameters, port);
     say(
+        out,
         b"its width is #, and that of its port $",
         register_width(registers, i),
         name,
         b"",
-    );
-    say_number(b" is #\n", parameter_width(parameters, port));
+    )?;
+    say_number(out, b" is #\n", parameter_width(parameters, port))
 }
 
-fn show_register(text: &[u8], parameters: &[u32], registers: &[u32], i: u32) {
+fn show_register(
+    out: &mut impl io::Write,
+    text: &[u8],
+    parameters: &[u32],
+    registers: &[u32],
+    i: u32,
+) -> io::Result<()> {
     let width = register_width(registers, i);
     if !bits::is_width(width) {
-        show_width(width);
+        show_width(out, width)
     } else if is_unlike(parameters, registers, i, Part::Read) {
-        show_unlike(text, parameters, registers, i, Part::Read);
+        show_unlike(out, text, parameters, registers, i, Part::Read)
     } else {
-        show_unlike(text, parameters, registers, i, Part::Write);
+        show_unlike(out, text, parameters, registers, i, Part::Write)
     }
 }
 
 // ; of its read part: 12
-fn show_bits_of(variables: &[u32], v: u32, part: Part, words: &[u8]) {
+fn show_bits_of(
+    out: &mut impl io::Write,
+    variables: &[u32],
+    v: u32,
+    part: Part,
+    words: &[u8],
+) -> io::Result<()> {
     let at = variable_part(v, part);
     if at < 4294967296 {
         if variable_has(variables, v, part) {
-            say_number(words, bit_count(variables, at));
+            say_number(out, words, bit_count(variables, at))?;
         }
     }
+    Ok(())
 }
 
-fn show_type(variables: &[u32], v: u32) {
-    say_number(b"bits of its type: #", variable_width(variables, v));
-    show_bits_of(variables, v, Part::Read, b"; of its read part: #");
-    show_bits_of(variables, v, Part::Write, b"; of its write part: #");
-    write(b"\n");
+fn show_type(out: &mut impl io::Write, variables: &[u32], v: u32) -> io::Result<()> {
+    say_number(out, b"bits of its type: #", variable_width(variables, v))?;
+    show_bits_of(out, variables, v, Part::Read, b"; of its read part: #")?;
+    show_bits_of(out, variables, v, Part::Write, b"; of its write part: #")?;
+    write(out, b"\n")
 }
 
 // 12: a variable, a register or a parameter, whichever is declared there.
 fn show_widths(
+    out: &mut impl io::Write,
     text: &[u8],
     parameters: &[u32],
     registers: &[u32],
     variables: &[u32],
     place: usize,
-) {
+) -> io::Result<()> {
     let v = last(variables);
     let i = last(registers);
     if variable_place(variables, v) == place {
-        show_type(variables, v);
+        show_type(out, variables, v)
     } else if register_place(registers, i) == place {
-        show_register(text, parameters, registers, i);
+        show_register(out, text, parameters, registers, i)
     } else {
-        show_width(parameter_width(parameters, last(parameters)));
+        show_width(out, parameter_width(parameters, last(parameters)))
     }
 }
 
-fn show_late(text: &[u8], registers: &[u32], variables: &[u32], rule: u32, place: usize) {
+fn show_late(
+    out: &mut impl io::Write,
+    text: &[u8],
+    registers: &[u32],
+    variables: &[u32],
+    rule: u32,
+    place: usize,
+) -> io::Result<()> {
     if rule == 14 {
-        show_taken(text, registers, variables, Part::Read);
-        show_taken(text, registers, variables, Part::Write);
+        show_taken(out, text, registers, variables, Part::Read)?;
+        show_taken(out, text, registers, variables, Part::Write)
     } else if rule == 15 {
-        show_pulled(text, registers, variables, Part::Read);
-        show_pulled(text, registers, variables, Part::Write);
+        show_pulled(out, text, registers, variables, Part::Read)?;
+        show_pulled(out, text, registers, variables, Part::Write)
     } else {
         let i = first_in(registers, Test::Named(place));
-        crate::bare::show_bare(text, registers, variables, i, Part::Read);
-        crate::bare::show_bare(text, registers, variables, i, Part::Write);
+        crate::bare::show_bare(out, text, registers, variables, i, Part::Read)?;
+        crate::bare::show_bare(out, text, registers, variables, i, Part::Write)
     }
 }
 
 pub fn show_lists(
+    out: &mut impl io::Write,
     text: &[u8],
     parameters: &[u32],
     registers: &[u32],
     variables: &[u32],
     rule: u32,
     place: usize,
-) {
+) -> io::Result<()> {
     if rule == 11 {
-        crate::pieces::show_pieces(text, registers, variables, place);
+        crate::pieces::show_pieces(out, text, registers, variables, place)
     } else if rule == 12 {
-        show_widths(text, parameters, registers, variables, place);
+        show_widths(out, text, parameters, registers, variables, place)
     } else if rule == 13 {
-        crate::attributes::show_attributes(text, variables, place);
+        crate::attributes::show_attributes(out, text, variables, place)
     } else {
-        show_late(text, registers, variables, rule, place);
+        show_late(out, text, registers, variables, rule, place)
     }
 }

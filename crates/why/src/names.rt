@@ -8,22 +8,48 @@ use details::places::{in_register, lines_before, name_at};
 use rules::names::{find, stands_at};
 use rules::words::narrow;
 use rules::{Found, Judging};
+use std::io;
 use wording::parts::Entry;
 use wording::write::{from_one, say, say_name, write};
 
-fn show_entry_as(text: &[u8], table: &[u32], entry: Entry, name: &[u8], i: u32) {
+fn show_entry_as(
+    out: &mut impl io::Write,
+    text: &[u8],
+    table: &[u32],
+    entry: Entry,
+    name: &[u8],
+    i: u32,
+) -> io::Result<()> {
     match entry {
         Entry::Parameter => {
             let line = from_one(lines_before(text, parameter_place(table, i)));
-            say(b"$ is a parameter, declared in line #\n", line, name, b"");
+            say(
+                out,
+                b"$ is a parameter, declared in line #\n",
+                line,
+                name,
+                b"",
+            )
         }
         Entry::Register => {
             let line = from_one(lines_before(text, register_place(table, i)));
-            say(b"$ is a register, declared in line #\n", line, name, b"");
+            say(
+                out,
+                b"$ is a register, declared in line #\n",
+                line,
+                name,
+                b"",
+            )
         }
         Entry::Variable => {
             let line = from_one(lines_before(text, variable_place(table, i)));
-            say(b"$ is a variable, declared in line #\n", line, name, b"");
+            say(
+                out,
+                b"$ is a variable, declared in line #\n",
+                line,
+                name,
+                b"",
+            )
         }
     }
 }
@@ -37,60 +63,99 @@ fn find_entry(text: &[u8], table: &[u32], entry: Entry, name: &[u8]) -> Found {
 }
 
 // Has an entry of this table the name? It is shown, if so.
-fn is_entry(text: &[u8], table: &[u32], entry: Entry, name: &[u8]) -> bool {
+fn is_entry(
+    out: &mut impl io::Write,
+    text: &[u8],
+    table: &[u32],
+    entry: Entry,
+    name: &[u8],
+) -> io::Result<bool> {
     let found = find_entry(text, table, entry, name);
     match found {
         Found::At(i) => {
-            show_entry_as(text, table, entry, name, narrow(i));
-            true
+            show_entry_as(out, text, table, entry, name, narrow(i))?;
+            Ok(true)
         }
-        Found::Nothing => false,
+        Found::Nothing => Ok(false),
     }
 }
 
-fn is_device(text: &[u8], judging: Judging, name: &[u8]) -> bool {
+fn is_device(
+    out: &mut impl io::Write,
+    text: &[u8],
+    judging: Judging,
+    name: &[u8],
+) -> io::Result<bool> {
     let device = stands_at(text, judging.place, judging.extent, name);
     if device {
         let line = from_one(lines_before(text, judging.place));
-        say(b"$ is the device, declared in line #\n", line, name, b"");
+        say(
+            out,
+            b"$ is the device, declared in line #\n",
+            line,
+            name,
+            b"",
+        )?;
     }
-    device
+    Ok(device)
 }
 
 // Says so if a declared name is one slip away.
-fn try_near(text: &[u8], table: &[u32], entry: Entry, name: &[u8], i: u32) {
+fn try_near(
+    out: &mut impl io::Write,
+    text: &[u8],
+    table: &[u32],
+    entry: Entry,
+    name: &[u8],
+    i: u32,
+) -> io::Result<()> {
     let declared = match entry {
         Entry::Parameter => parameter_name(text, table, i),
         Entry::Register => register_name(text, table, i),
         Entry::Variable => variable_name(text, table, i),
     };
     if is_slip(name, declared) {
-        say_name(b"did you mean $?\n", declared);
+        say_name(out, b"did you mean $?\n", declared)?;
     }
+    Ok(())
 }
 
-fn show_near(text: &[u8], table: &[u32], entry: Entry, name: &[u8]) {
+fn show_near(
+    out: &mut impl io::Write,
+    text: &[u8],
+    table: &[u32],
+    entry: Entry,
+    name: &[u8],
+) -> io::Result<()> {
     let n = count_of(table);
     let mut i: u32 = 0;
     while i < n {
-        try_near(text, table, entry, name, i);
+        try_near(out, text, table, entry, name, i)?;
         i += 1;
     }
+    Ok(())
 }
 
 // A register's port names a parameter, a variable's piece a register.
-fn show_due(text: &[u8], parameters: &[u32], registers: &[u32], place: usize) {
+fn show_due(
+    out: &mut impl io::Write,
+    text: &[u8],
+    parameters: &[u32],
+    registers: &[u32],
+    place: usize,
+) -> io::Result<()> {
     let name = name_at(text, place);
     if in_register(text, place) {
-        write(b"here a parameter is due\n");
-        show_near(text, parameters, Entry::Parameter, name);
+        write(out, b"here a parameter is due\n")?;
+        show_near(out, text, parameters, Entry::Parameter, name)
     } else {
-        write(b"here a register is due\n");
-        show_near(text, registers, Entry::Register, name);
+        write(out, b"here a register is due\n")?;
+        show_near(out, text, registers, Entry::Register, name)
     }
 }
 
 pub fn show_name(
+    out: &mut impl io::Write,
     text: &[u8],
     judging: Judging,
     parameters: &[u32],
@@ -98,16 +163,17 @@ pub fn show_name(
     variables: &[u32],
     rule: u32,
     place: usize,
-) {
+) -> io::Result<()> {
     let name = name_at(text, place);
-    let one = is_device(text, judging, name);
-    let two = is_entry(text, parameters, Entry::Parameter, name);
-    let three = is_entry(text, registers, Entry::Register, name);
-    let four = is_entry(text, variables, Entry::Variable, name);
+    let one = is_device(out, text, judging, name)?;
+    let two = is_entry(out, text, parameters, Entry::Parameter, name)?;
+    let three = is_entry(out, text, registers, Entry::Register, name)?;
+    let four = is_entry(out, text, variables, Entry::Variable, name)?;
     if !(one | two | three | four) {
-        say_name(b"$ is not declared before this\n", name);
+        say_name(out, b"$ is not declared before this\n", name)?;
     }
     if rule == 7 {
-        show_due(text, parameters, registers, place);
+        show_due(out, text, parameters, registers, place)?;
     }
+    Ok(())
 }

@@ -5,6 +5,7 @@ use details::entries::{
     register_word,
 };
 use rules::words::narrow;
+use std::io;
 use tables::Part;
 
 // The three tables of entries.
@@ -22,57 +23,64 @@ pub fn last(table: &[u32]) -> u32 {
 }
 
 // 3..0, or 3 alone
-fn show_ends(first: usize, last: usize) {
-    number(first);
+fn show_ends(out: &mut impl io::Write, first: usize, last: usize) -> io::Result<()> {
+    number(out, first)?;
     if first != last {
-        say_number(b"..#", last);
+        say_number(out, b"..#", last)?;
     }
+    Ok(())
 }
 
 // [3..0]
-pub fn show_bracket(first: usize, last: usize) {
-    write(b"[");
-    show_ends(first, last);
-    write(b"]");
+pub fn show_bracket(out: &mut impl io::Write, first: usize, last: usize) -> io::Result<()> {
+    write(out, b"[")?;
+    show_ends(out, first, last)?;
+    write(out, b"]")
 }
 
 // 0..3
-pub fn show_range(parameters: &[u32], i: u32, k: u32) {
-    show_ends(range_low(parameters, i, k), range_high(parameters, i, k));
+pub fn show_range(out: &mut impl io::Write, parameters: &[u32], i: u32, k: u32) -> io::Result<()> {
+    show_ends(
+        out,
+        range_low(parameters, i, k),
+        range_high(parameters, i, k),
+    )
 }
 
 // Five ranges to a line.
-fn show_comma(k: u32) {
+fn show_comma(out: &mut impl io::Write, k: u32) -> io::Result<()> {
     if 0 < k {
         if k % 5 == 0 {
-            write(b",\n");
-            blanks(22);
+            write(out, b",\n")?;
+            blanks(out, 22)?;
         } else {
-            write(b", ");
+            write(out, b", ")?;
         }
     }
+    Ok(())
 }
 
 // 0..3, 8
-fn show_ranges(parameters: &[u32], i: u32) {
+fn show_ranges(out: &mut impl io::Write, parameters: &[u32], i: u32) -> io::Result<()> {
     let n = range_count(parameters, i);
     let mut k: u32 = 0;
     while k < n {
-        show_comma(k);
-        show_range(parameters, i, k);
+        show_comma(out, k)?;
+        show_range(out, parameters, i, k)?;
         k += 1;
     }
+    Ok(())
 }
 
 // offsets 0..3, 8; or offset 0, where there is but one
-pub fn show_offsets(parameters: &[u32], i: u32) {
+pub fn show_offsets(out: &mut impl io::Write, parameters: &[u32], i: u32) -> io::Result<()> {
     let alone = range_low(parameters, i, 0) == range_high(parameters, i, 0);
     if alone & (range_count(parameters, i) == 1) {
-        write(b"offset ");
+        write(out, b"offset ")?;
     } else {
-        write(b"offsets ");
+        write(out, b"offsets ")?;
     }
-    show_ranges(parameters, i);
+    show_ranges(out, parameters, i)
 }
 
 // The highest bit that a register has.
@@ -86,13 +94,28 @@ pub fn port_of(registers: &[u32], i: u32, part: Part) -> u32 {
 }
 
 // base @ 0
-pub fn show_place(text: &[u8], parameters: &[u32], registers: &[u32], i: u32, part: Part) {
-    write(parameter_name(text, parameters, port_of(registers, i, part)));
-    say_number(b" @ #", register_word(registers, i, part, 2));
+pub fn show_place(
+    out: &mut impl io::Write,
+    text: &[u8],
+    parameters: &[u32],
+    registers: &[u32],
+    i: u32,
+    part: Part,
+) -> io::Result<()> {
+    write(
+        out,
+        parameter_name(text, parameters, port_of(registers, i, part)),
+    )?;
+    say_number(out, b" @ #", register_word(registers, i, part, 2))
 }
 
 // bit 3 of `status`, by the bit's number
-pub fn show_bit(text: &[u8], registers: &[u32], bit: usize) {
+pub fn show_bit(
+    out: &mut impl io::Write,
+    text: &[u8],
+    registers: &[u32],
+    bit: usize,
+) -> io::Result<()> {
     let name = register_name(text, registers, narrow(bit / 64));
-    say(b"bit # of $", bit % 64, name, b"");
+    say(out, b"bit # of $", bit % 64, name, b"")
 }

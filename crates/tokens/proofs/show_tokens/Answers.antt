@@ -10,7 +10,7 @@ use Rattle.tokens.proofs.show_tokens.Goals as goal
 use Rattle.tokens.proofs.show_tokens.Goals.{Then-goes_on}
 
 -- the reader went forward, and not past the end
-ahead : 
+ahead :
     (c : Then-goes_on)
     → (c.loop-at.at < c.scan-found.result.next)
     × (c.scan-found.result.next ≤ length c.args.text.now)

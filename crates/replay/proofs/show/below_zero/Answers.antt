@@ -20,6 +20,6 @@ pub returns : goal.returns
 returns c =
     let s = c.ranges.value in
     let read = turned-read _ s c.requires in record {
-    is = negative-is _ c.requires ∙ ap (λ (y : ℤ). negsuc (nat_abs y)) (sym read);
-    small = subst (λ (y : ℤ). nat_abs y < 2 ^ 63) (sym read) (omega (arith, s.sfits))
+      is = negative-is _ c.requires ∙ ap (λ (y : ℤ). negsuc (nat_abs y)) (sym read);
+      small = subst (λ (y : ℤ). nat_abs y < 2 ^ 63) (sym read) (omega (arith, s.sfits));
     }
