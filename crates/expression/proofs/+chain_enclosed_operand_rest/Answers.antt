@@ -1,20 +1,17 @@
 -- The goals of the cycle {chain, enclosed, operand, rest}, by the laws of proofs/Laws.antt. Assumes nothing.
-use Rattle.std.proofs.Common.{◌≡◌, ℕ, ◌-◌, List, refl, sym, ap, ◌∙◌, arith, inl, inr, pos, to_z, of_z}
+use Rattle.std.proofs.Common.{◌≡◌, ℕ, ◌-◌, List, sym, ap, ◌∙◌, arith, inl, inr, pos}
 use mir.Syntax.{w64}
 use mir.Val.{SFits}
 use mir.Facts.{to_z-of_z}
-use Rattle.token.specs.Scan.{scan_at}
 use Rattle.token.specs.Kind.{sign_of}
 use Rattle.token.specs.Fair.{place_of}
 use Rattle.token.specs.declared.Scanned.{Scanned}
 use Rattle.expression.specs.declared.Worth.{Worth}
 use Rattle.expression.specs.declared.Joint.{Joint}
-use Rattle.expression.specs.declared.Joint.TheVariants.{By, Ends}
-use Rattle.expression.specs.declared.Operator.{Operator}
 use Rattle.expression.specs.declared.Opening.{Opening}
 use Rattle.expression.specs.declared.Outcome.{Outcome}
 use Rattle.expression.specs.declared.Outcome.TheVariants.{Read, Refused}
-use Rattle.expression.specs.Value.{within_range, applied_by}
+use Rattle.expression.specs.Value.{within_range}
 use Rattle.expression.specs.Expression.{negated_read, closed_read, unexpected_as, on_read, joint_of, opening_of, operand_at, chain_at, rest_at}
 use Rattle.expression.proofs.Laws.{operand-literal, operand-nothing, operand-deep, operand-minus, operand-paren, chain-operand, chain-rest, rest_end, rest-refusal, rest_more, rest-ahead, sum-read, enclosed-refused, enclosed-alone}
 use Rattle.expression.proofs.+chain_enclosed_operand_rest.Goals as goal

@@ -1,7 +1,6 @@
 -- `expression::begun` meets its contract. Assumes nothing.
 use borrow.Author.Tests.{ne_eqb}
 use Rattle.expression.proofs.Tokens.{by_sign}
-use borrow.Author.Rules.{rules}
 use Rattle.expression.proofs.begun.Goals as goal
 
 pub returns-in-Number : goal.returns-in-Number

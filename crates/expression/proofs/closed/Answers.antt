@@ -2,7 +2,6 @@
 use mathlib.Core.Path.{◌∙◌}
 use borrow.Author.Tests.{ne_eqb}
 use Rattle.expression.specs.Expression.{closed_read}
-use borrow.Author.Rules.{rules}
 use Rattle.expression.proofs.closed.Goals as goal
 
 pub returns-in_default : goal.returns-in_default

@@ -6,7 +6,6 @@ use mir.Syntax.{w32}
 use mir.Facts.{to_z-of_z, sfits_widen}
 use Rattle.expression.specs.Value.{combined_by}
 use Rattle.expression.proofs.Range.{op_fits, op-worth, sum_fits, difference-fits, product-fits, quotient_fits, remainder-fits, zero-divisor, good-divisor}
-use borrow.Author.Rules.{rules}
 use Rattle.expression.proofs.combined.Goals as goal
 
 pub overflow_cast-x : goal.overflow_cast-x

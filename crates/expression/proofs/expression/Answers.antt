@@ -3,7 +3,6 @@
 use mathlib.Core.Path.{refl, sym, ◌∙◌}
 use Rattle.expression.specs.Expression.{expression_at}
 use Rattle.expression.proofs.Laws.{sum-read, sum-refused, sum-alone}
-use borrow.Author.Rules.{rules}
 use Rattle.expression.proofs.expression.Goals as goal
 
 pub returns-in_default : goal.returns-in_default

@@ -3,7 +3,6 @@ use mathlib.Core.Path.{ap, ◌∙◌}
 use Rattle.token.specs.declared.Scanned.{Scanned}
 use Rattle.token.specs.Kind.{sign_of}
 use Rattle.expression.specs.Expression.{operator_of}
-use borrow.Author.Rules.{rules}
 use Rattle.expression.proofs.joint_at.Goals as goal
 
 pub returns : goal.returns

@@ -1,6 +1,5 @@
 use mathlib.Core.Path.{sym, ◌∙◌}
 use Rattle.expression.proofs.Joints.{joint-ends, joint-by, joint-other}
-use borrow.Author.Rules.{rules}
 use Rattle.expression.proofs.joint_of.Goals as goal
 
 pub returns-in_default : goal.returns-in_default

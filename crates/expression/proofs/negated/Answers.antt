@@ -1,5 +1,4 @@
 -- `expression::negated` meets its contract. Assumes nothing.
-use borrow.Author.Rules.{rules}
 use Rattle.expression.proofs.negated.Goals as goal
 
 pub returns : goal.returns

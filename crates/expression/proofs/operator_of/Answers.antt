@@ -1,3 +1,4 @@
+use native.Mathlib.Omega.{arith}
 use borrow.Author.Tests.{ne_eqb}
 use Rattle.expression.specs.Expression.{operator_of}
 use Rattle.expression.proofs.operator_of.Goals as goal
@@ -24,4 +25,4 @@ returns-in-37 c = rw c.in-37.is
 
 pub returns-in_default : goal.returns-in_default
 unfolding operator_of
-returns-in_default c = rw (ne_eqb _ _ c.in_default.in_default-own.rest.0.0.0.0.1, ne_eqb _ _ c.in_default.in_default-own.rest.0.0.0.1, ne_eqb _ _ c.in_default.in_default-own.rest.0.0.1, ne_eqb _ _ c.in_default.in_default-own.rest.0.1, ne_eqb _ _ c.in_default.in_default-own.rest.1)
+returns-in_default c = rw (ne_eqb c.args.sign 43 (λ e. omega arith), ne_eqb c.args.sign 45 (λ e. omega arith), ne_eqb c.args.sign 42 (λ e. omega arith), ne_eqb c.args.sign 47 (λ e. omega arith), ne_eqb c.args.sign 37 (λ e. omega arith))
