@@ -39,11 +39,11 @@ overflow_sub-result c = omega (arith, c.power-whole.ensures, pow_pos c.args.widt
 pub overflow_sub-result-2 : goal.overflow_sub-result-2
 overflow_sub-result-2 c =
     let a = c.args in
-    let left = left_is a.kind a.width c.depth_of-depth.result c.pre.0 c.depth_of-depth.ensures in
+    let left = left_is a.kind a.width c.depth_of-depth.result c.requires.0 c.depth_of-depth.ensures in
     omega (arith, c.power-whole.ensures, left.0)
 
 pub returns : goal.returns
 returns c =
     let a = c.args in
-    let left = left_is a.kind a.width c.depth_of-depth.result c.pre.0 c.depth_of-depth.ensures in
+    let left = left_is a.kind a.width c.depth_of-depth.result c.requires.0 c.depth_of-depth.ensures in
     rw c.power-whole.ensures (before _ _ left.1)

@@ -19,10 +19,10 @@ loop-k-init c = (omega arith, first-none _)
 
 pub returns-then-not-are_together : goal.returns-then-not-are_together
 unfolding run_below
-returns-then-not-are_together c = first-stop _ c.loop-k-test.true refl c.loop-k.invariant.1 (ap not (sym c.are_together.ensures) ∙ c.if-not-are_together.true)
+returns-then-not-are_together c = first-stop _ c.loop-k-test.true refl c.loop-k.invariant.1 (ap not (sym c.are_together.ensures ∙ c.if-not-are_together.true))
 
 pub loop-k-preserved : goal.loop-k-preserved
-loop-k-preserved c = (omega arith, first_more _ _ c.loop-k.invariant.1 (ap not (sym c.are_together.ensures) ∙ c.if-not-are_together.false))
+loop-k-preserved c = (omega arith, first_more _ _ c.loop-k.invariant.1 (ap not (sym c.are_together.ensures ∙ c.if-not-are_together.false)))
 
 pub returns : goal.returns
 unfolding run_below
