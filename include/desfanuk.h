@@ -7,10 +7,10 @@
  * confirms it, or abandons the operation. An operation is done at its last confirmation and never sooner, and a
  * variable whose write was abandoned cannot be read until a write of it finishes.
  *
- * The functions are in the archive that `rt staticlib abi` writes, target/staticlib/libabi.a; what
+ * The functions are in the archive that `rt lib` in crates/abi writes, crates/abi/out/libabi.a; what
  * each does is proved. score.c beside this file is a whole program:
  *
- *     cc -std=c99 -Iinclude include/score.c target/staticlib/libabi.a -o score
+ *     cc -std=c99 -Iinclude include/score.c crates/abi/out/libabi.a -o score
  *     ./score boards/scoring.devil
  *
  * Lent memory. `xs, xs_len` is memory that the caller lends for the call: xs_len elements from xs

@@ -3,7 +3,7 @@
  * The sensor is a simulated one, which gives the steps that are named on the command line.
  * rust/desfanuk/examples/lux.rs is the same program in Rust.
  *
- *     cc -std=c99 -Iinclude include/lux.c target/staticlib/libabi.a -o lux
+ *     cc -std=c99 -Iinclude include/lux.c crates/abi/out/libabi.a -o lux
  *     ./lux boards/lamp.devil 0.5 1024 298 -2048 2047
  */
 #include "desfanuk.h"

@@ -2,7 +2,7 @@
  * A description that arrives in pieces, as from a slow line: each is taken as it comes, and the
  * text is judged when it has ended. rust/desfanuk/examples/pieces.rs is the same program in Rust.
  *
- *     cc -std=c99 -Iinclude include/pieces.c target/staticlib/libabi.a -o pieces
+ *     cc -std=c99 -Iinclude include/pieces.c crates/abi/out/libabi.a -o pieces
  *     ./pieces 300 < boards/scoring.devil
  */
 #include "desfanuk.h"

@@ -3,7 +3,7 @@
  * again; at the end the cable is pulled. The board is a simulated one, four bytes of storage.
  * rust/desfanuk/examples/score.rs is the same program in Rust.
  *
- *     cc -std=c99 -Iinclude include/score.c target/staticlib/libabi.a -o score
+ *     cc -std=c99 -Iinclude include/score.c crates/abi/out/libabi.a -o score
  *     ./score boards/scoring.devil
  */
 #include "desfanuk_station.h"

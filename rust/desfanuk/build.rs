@@ -1,4 +1,4 @@
-//! Links the proved archive: `rt staticlib abi` writes it to target/staticlib/ of the repository.
+//! Links the proved archive: `rt lib` in crates/abi of the repository writes it to out/ there.
 //! DESFANUK_ARCHIVE_DIR names another folder.
 
 use std::env;
@@ -24,12 +24,12 @@ fn main() {
     }
     let folder = own.unwrap_or_else(|| {
         Path::new(&env::var_os("CARGO_MANIFEST_DIR").expect("cargo sets it"))
-            .join("../../target/staticlib")
+            .join("../../crates/abi/out")
     });
     let archive = folder.join("libabi.a");
     if !archive.exists() {
         stop(format!(
-            "{} is missing: run `rt staticlib abi` in the repository first",
+            "{} is missing: run `cd crates/abi && rt lib` in the repository first",
             archive.display()
         ));
     }

@@ -18,14 +18,14 @@ fn root() -> PathBuf {
 
 /// What a proved program writes on an input.
 pub fn told(program: &str, input: &[u8]) -> Result<Vec<u8>, Trouble> {
-    let path = root().join("target/bin").join(program);
+    let path = root().join(format!("crates/{program}/out/{program}"));
     started(program, &path, "./first proves and builds it", input)
 }
 
 /// What rust/picture writes on an input. It links the proved archive, and so is a program for x86-64.
 pub fn drawn(input: &[u8]) -> Result<Vec<u8>, Trouble> {
     let path = root().join("rust/target/x86_64-unknown-linux-gnu/release/picture");
-    let remedy = "after rt staticlib abi, ./desfanuk map --html builds it";
+    let remedy = "after (cd crates/abi && rt lib), ./desfanuk map --html builds it";
     started("picture", &path, remedy, input)
 }
 

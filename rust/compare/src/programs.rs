@@ -1,4 +1,4 @@
-//! The proved programs, run as a user runs them. `rt check NAME` builds one.
+//! The proved programs, run as a user runs them. `rt run` in crates/NAME builds one, and `rt ci` all.
 
 use std::io::Write;
 use std::path::{Path, PathBuf};
@@ -10,8 +10,8 @@ pub fn root() -> PathBuf {
 
 /// What a program writes on an input.
 pub fn written(name: &str, input: &[u8]) -> String {
-    let program = root().join("target/bin").join(name);
-    assert!(program.exists(), "run `rt check {name}` first");
+    let program = root().join(format!("crates/{name}/out/{name}"));
+    assert!(program.exists(), "run `rt run` in crates/{name} first");
     let mut child = Command::new(root().join("run"))
         .arg(program)
         .stdin(Stdio::piped())

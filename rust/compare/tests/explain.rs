@@ -1,6 +1,6 @@
 //! What the program `explain` writes, over every board, over a refusal of each number from 3 to 16 and over bits that
-//! are listed out of order: held to files that a person has read. `rt check explain` builds the program; `cargo test`
-//! wants it to be there.
+//! are listed out of order: held to files that a person has read. `rt run` in crates/explain builds the
+//! program; `cargo test` wants it to be there.
 //!
 //! explain/NAME.devil is a text and explain/NAME.txt what is written on it; for boards/NAME.devil that is
 //! explain/NAME.txt too.

@@ -1,6 +1,6 @@
 //! Texts in pieces, in both implementations: the answer to each call, and the store, the number
 //! taken and every word of the tables after it. The program `arrivals` is run on generated scripts;
-//! `rt check arrivals` builds it.
+//! `rt run` in crates/arrivals builds it.
 
 use compare::programs::written;
 use compare::proved;

@@ -12,7 +12,7 @@
 //!
 //! What the calls answer is proved (crates/ of this repository; the archive `libabi.a` is linked).
 //! This crate adds types: nothing here can be called wrongly, and the variable of another description
-//! does not compile. `rt staticlib abi` makes the archive.
+//! does not compile. `cd crates/abi && rt lib` makes the archive.
 //!
 //! ```
 //! use desfanuk::{Access, Answer, Described, Description, Direction, Refusal, Refused, Station};

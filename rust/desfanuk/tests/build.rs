@@ -42,7 +42,7 @@ fn the_build_says_what_is_missing() {
     stopped(run(&script, "aarch64", None), arm);
     let empty = Path::new(env!("CARGO_TARGET_TMPDIR")).join("no_archive");
     fs::create_dir_all(&empty).expect("made");
-    let missing = "libabi.a is missing: run `rt staticlib abi`";
+    let missing = "libabi.a is missing: run `cd crates/abi && rt lib`";
     stopped(run(&script, "x86_64", Some(&empty)), missing);
 
     // Who names a folder says that its archive is the right one.

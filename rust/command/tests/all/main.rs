@@ -1,5 +1,5 @@
 //! The command as a process: what it writes, where, and with which exit code. The proved programs are to be there:
-//! `rt check` builds them.
+//! `rt ci` and `rt run` build them.
 
 mod check;
 mod map;

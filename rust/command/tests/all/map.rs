@@ -75,9 +75,10 @@ fn a_map_as_json() {
 fn lists_that_are_not_confirmed_are_trouble() {
     let folder = Path::new(env!("CARGO_TARGET_TMPDIR")).join("other");
     let _ = fs::remove_dir_all(&folder);
-    fs::create_dir_all(folder.join("target/bin")).expect("made");
     for program in ["explain", "replay", "tokens"] {
-        fs::write(folder.join("target/bin").join(program), "").expect("written");
+        let out = folder.join("crates").join(program).join("out");
+        fs::create_dir_all(&out).expect("made");
+        fs::write(out.join(program), "").expect("written");
     }
     let run = folder.join("run");
     let real = root().join("run");
@@ -137,14 +138,15 @@ fn a_page_that_is_not_drawn_is_trouble() {
     };
     let made = shell(&format!(
         "mkdir -p {0}/rust/picture {0}/rust/target/release && cp {1} {0}/rust/target/release/command &&
-         cp -a desfanuk run {0} && mkdir {0}/target && ln -s $PWD/target/bin {0}/target/bin",
+         cp -a desfanuk run {0} && mkdir {0}/crates && ln -s $PWD/crates/explain {0}/crates/explain &&
+         ln -s $PWD/crates/replay {0}/crates/replay",
         folder.display(),
         env!("CARGO_BIN_EXE_command")
     ));
     assert_eq!(made.code, 0, "{made:?}");
-    html("which is missing: rt staticlib abi makes it");
+    html("which is missing: (cd crates/abi && rt lib) makes it");
     fs::remove_dir(folder.join("rust/picture")).expect("removed");
-    html("the program picture is not built yet: after rt staticlib abi");
+    html("the program picture is not built yet: after (cd crates/abi && rt lib)");
     fs::create_dir_all(picture.parent().expect("a folder")).expect("made");
     let other = |to: &str, words: &str| {
         let run = root().join("run");

@@ -18,15 +18,15 @@ fn cloned(folder: &Path) -> Ended {
     let picture = "rust/target/x86_64-unknown-linux-gnu/release/picture";
     let of_picture = match is_picture_here() {
         true => picture,
-        false => "target/bin/verdict",
+        false => "crates/verdict/out/verdict",
     };
     let line = format!(
         "set -e; ./desfanuk map --html boards/lamp.devil > /dev/null || [ {of_picture} != {picture} ]
          to={}/tree; mkdir -p $to
-         tar -c --exclude=./target --exclude=./rust/target --exclude=./.git . | tar -x -C $to
-         mkdir -p $to/rust/target/release $to/target/staticlib $to/$(dirname {picture})
-         cp -a target/bin $to/target/
-         echo archive > $to/target/staticlib/libabi.a
+         tar -c --exclude=./target --exclude=./rust/target --exclude='./crates/*/out' --exclude=./.git . | tar -x -C $to
+         mkdir -p $to/target $to/rust/target/release $to/crates/abi/out $to/$(dirname {picture})
+         for name in $(ls crates/*/src/main.rt | cut -d/ -f2); do cp --parents crates/$name/out/$name $to/; done
+         echo archive > $to/crates/abi/out/libabi.a
          cp {} $to/rust/target/release/command
          cp {of_picture} $to/{picture}
          cd $to; git init -q .; git add -A
@@ -106,7 +106,7 @@ fn is_ready_alone(packed: &Packed, alone: &Path) {
 /// A tree without programs takes them from the archive, if its crates are the same.
 fn starts_from_it(packed: &Packed) {
     let name = &packed.name;
-    good(packed.inside(&format!("cp target/{name} .. && rm -r target/bin")));
+    good(packed.inside(&format!("cp target/{name} .. && rm -r crates/*/out")));
     let told = good(packed.inside(&format!("./first --from ../{name} boards/lamp.devil")));
     assert!(told.contains("gate 87 passed, 0 failed"), "{told}");
     assert!(told.contains("device lamp"), "{told}");

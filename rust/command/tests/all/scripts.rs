@@ -103,13 +103,19 @@ fn first_tells_a_wrong_argument_at_once() {
 /// Which crate of how many, and how long is left: of `explain` and all below it.
 #[test]
 fn progress_is_told() {
-    let lines = "rt: logic proved (1 s)\\nlibrary std\\nrt: token proved (unchanged since it was last proved)\\n";
+    let lines = "rt: chose --jobs 2 for logic\\ncrate logic: modules loaded=2 checked=9\\nlogic=proved functions=0\\n\
+        only=0 proved=0\\ncrate token: modules loaded=9 checked=0\\nlogic=proved functions=36\\n\
+        rt: nothing has changed since the last proved build, by out/explain.stamp, so nothing is checked now\\n";
     let ended = shell(&format!("printf '{lines}' | .ci/progress explain"));
     let told: Vec<&str> = ended.out.lines().collect();
-    assert_eq!((ended.code, told.len()), (0, 2), "{ended:?}");
-    assert!(
-        told[0].starts_with("     1 of ")
-            && told[0].contains(": logic proved (1 s); minutes left: ")
-    );
-    assert!(told[1].starts_with("     2 of ") && told[1].contains(": token proved (unchanged"));
+    assert_eq!((ended.code, told.len()), (0, 3), "{ended:?}");
+    assert!(told[0].starts_with("     1 of "));
+    assert!(told[0].contains(": logic proved (") && told[0].contains(" s); minutes left: "));
+    assert!(told[1].starts_with("     2 of "));
+    assert!(told[1].contains(": token proved (as it was kept); minutes left: "));
+    // With a program all below it is done.
+    let (done, all) = told[2].trim().split_once(" of ").expect("how many");
+    assert!(all.starts_with(&format!(
+        "{done}: explain proved (unchanged); minutes left: 0"
+    )));
 }

@@ -14,8 +14,8 @@ pub fn root() -> PathBuf {
 /// The command over the proved programs of the repository, in its folder and not on a terminal.
 pub fn command(arguments: &[&str]) -> Command {
     for program in ["explain", "replay", "tokens"] {
-        let path = root().join("target/bin").join(program);
-        assert!(path.exists(), "run `rt check {program}` first");
+        let path = root().join(format!("crates/{program}/out/{program}"));
+        assert!(path.exists(), "run `rt run` in crates/{program} first");
     }
     let mut command = Command::new(env!("CARGO_BIN_EXE_command"));
     command

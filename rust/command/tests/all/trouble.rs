@@ -101,7 +101,7 @@ fn output_that_fails_is_trouble() {
 #[test]
 fn programs_that_fail_are_trouble() {
     let folder = Path::new(env!("CARGO_TARGET_TMPDIR")).join("root");
-    let bin = folder.join("target/bin");
+    let bin = folder.join("crates/explain/out");
     let _ = fs::remove_dir_all(&folder);
     fs::create_dir_all(&bin).expect("made");
     let check = || {
@@ -170,7 +170,7 @@ fn a_text_at_the_limit_of_reading_is_too_long() {
 #[test]
 fn binary_input_is_refused_and_harmless() {
     let every: Vec<u8> = (0..=255).collect();
-    let program = fs::read(root().join("target/bin/verdict")).expect("the program");
+    let program = fs::read(root().join("crates/verdict/out/verdict")).expect("the program");
     let cases: [&[u8]; 5] = [
         b"",
         &every,
