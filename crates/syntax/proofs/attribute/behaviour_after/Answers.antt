@@ -1,7 +1,6 @@
 use mathlib.Core.Path.{◌∙◌}
 use Rattle.syntax.specs.Attribute.{behaviour_after}
 use borrow.Author.Tests.{eq-eqb, ne_eqb}
-use borrow.Author.Rules.{rules}
 use Rattle.syntax.proofs.attribute.behaviour_after.Goals as goal
 
 pub returns-then-seen-eq-VOLATILE : goal.returns-then-seen-eq-VOLATILE

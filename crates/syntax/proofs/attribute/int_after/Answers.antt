@@ -1,5 +1,4 @@
 use Rattle.syntax.specs.Attribute.{int_after}
-use borrow.Author.Rules.{rules}
 use Rattle.syntax.proofs.attribute.int_after.Goals as goal
 
 pub returns : goal.returns

@@ -1,7 +1,5 @@
 use native.Mathlib.Omega.{arith}
-use mathlib.Core.Path.{◌≡◌, refl, ◌∙◌}
-use lib.ListN.{length}
-use borrow.Author.Rules.{rules}
+use mathlib.Core.Path.{refl, ◌∙◌}
 use Rattle.syntax.specs.Attribute.{behaviour_turn, more_behaviours}
 use Rattle.syntax.proofs.LoopSteps.{sign-full, sign-end, sign-on}
 use Rattle.syntax.proofs.attribute.more_behaviours.Goals as goal

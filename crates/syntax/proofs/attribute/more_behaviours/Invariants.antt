@@ -1,9 +1,6 @@
-use native.Mathlib.Omega.{arith}
-use mathlib.Core.Path.{◌≡◌, refl, ◌∙◌}
+use mathlib.Core.Path.{◌≡◌}
 use lib.ListN.{length}
-use borrow.Author.Rules.{rules}
-use Rattle.syntax.specs.Attribute.{behaviour_turn, more_behaviours}
-use Rattle.syntax.proofs.LoopSteps.{sign-full, sign-end, sign-on}
+use Rattle.syntax.specs.Attribute.{more_behaviours}
 use Rattle.syntax.proofs.attribute.more_behaviours.Given as goal
 
 abbrev pub invariant-loop-room : goal.invariant-loop-room

@@ -1,7 +1,6 @@
 use mathlib.Core.Path.{◌∙◌}
 use Rattle.syntax.specs.Attribute.{type_after}
 use borrow.Author.Tests.{eq-eqb, ne_eqb}
-use borrow.Author.Rules.{rules}
 use Rattle.syntax.proofs.attribute.type_after.Goals as goal
 
 pub returns-then-seen-eq-BOOL : goal.returns-then-seen-eq-BOOL

@@ -1,5 +1,4 @@
 use Rattle.syntax.specs.Heading.{head_after}
-use borrow.Author.Rules.{rules}
 use Rattle.syntax.proofs.heading.head_after.Goals as goal
 
 pub returns : goal.returns

@@ -1,7 +1,5 @@
 use native.Mathlib.Omega.{arith}
-use mathlib.Core.Path.{◌≡◌, refl, ◌∙◌}
-use lib.ListN.{length}
-use borrow.Author.Rules.{rules}
+use mathlib.Core.Path.{refl}
 use Rattle.syntax.specs.Parameter.{more_ranges}
 use Rattle.syntax.proofs.ItemSteps.{items-full, items-end, items-on}
 use Rattle.syntax.proofs.parameter.more_ranges.Goals as goal

@@ -1,9 +1,6 @@
-use native.Mathlib.Omega.{arith}
-use mathlib.Core.Path.{◌≡◌, refl, ◌∙◌}
+use mathlib.Core.Path.{◌≡◌}
 use lib.ListN.{length}
-use borrow.Author.Rules.{rules}
 use Rattle.syntax.specs.Parameter.{more_ranges}
-use Rattle.syntax.proofs.ItemSteps.{items-full, items-end, items-on}
 use Rattle.syntax.proofs.parameter.more_ranges.Given as goal
 
 abbrev pub invariant-loop-room : goal.invariant-loop-room

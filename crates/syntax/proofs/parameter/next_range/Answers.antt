@@ -1,6 +1,5 @@
 use mathlib.Core.Path.{refl, ◌∙◌}
 use Rattle.syntax.specs.Parameter.{next_range}
-use borrow.Author.Rules.{rules}
 use Rattle.syntax.proofs.ItemSteps.{full_is, room-is}
 use Rattle.syntax.proofs.parameter.next_range.Goals as goal
 

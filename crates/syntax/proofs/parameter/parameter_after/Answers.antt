@@ -1,6 +1,5 @@
 use mathlib.Core.Path.{refl}
 use Rattle.syntax.specs.Parameter.{parameter_after}
-use borrow.Author.Rules.{rules}
 use Rattle.syntax.proofs.parameter.parameter_after.Goals as goal
 
 pub returns-clause-answered : goal.returns-clause-answered

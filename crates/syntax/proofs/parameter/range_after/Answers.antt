@@ -1,6 +1,5 @@
 use Rattle.syntax.specs.Parameter.{range_after, range_to}
 use borrow.Author.Tests.{eq-eqb, ne_eqb}
-use borrow.Author.Rules.{rules}
 use Rattle.syntax.proofs.parameter.range_after.Goals as goal
 
 pub returns-then-seen-eq-DOTS : goal.returns-then-seen-eq-DOTS

@@ -2,7 +2,6 @@ use mathlib.Core.Path.{refl}
 use Rattle.syntax.specs.Parameter.{more_ranges, ranges_after, set_after}
 use Rattle.syntax.proofs.ItemSteps.{items-are, closed-are}
 use borrow.Author.Tests.{eq-eqb, ne_eqb}
-use borrow.Author.Rules.{rules}
 use Rattle.syntax.proofs.parameter.set_after.Goals as goal
 
 pub returns-then-seen-ne-AT-clause-answered : goal.returns-then-seen-ne-AT-clause-answered
@@ -15,12 +14,12 @@ returns-then-seen-ne-AT-clause-stored c = rw (set_after, ← c.look-seen.ensures
 
 pub returns-clause-answered : goal.returns-clause-answered
 unfolding set_after ranges_after more_ranges
-returns-clause-answered c = 
+returns-clause-answered c =
     rw (set_after, ← c.look-seen.ensures, eq-eqb _ _ c.if-seen-ne-AT.false, ← c.fixed_after-open.ensures)
     (closed-are _ _ _ (items-are _ _ _ _ _ _ c.next_range-one.ensures.answered c.next_range-one.ensures.stored c.more_ranges-all.ensures.answered c.more_ranges-all.ensures.stored) c.fixed_after-close.ensures).0
 
 pub returns-clause-stored : goal.returns-clause-stored
 unfolding set_after ranges_after more_ranges
-returns-clause-stored c = 
+returns-clause-stored c =
     rw (set_after, ← c.look-seen.ensures, eq-eqb _ _ c.if-seen-ne-AT.false, ← c.fixed_after-open.ensures)
     (closed-are _ _ _ (items-are _ _ _ _ _ _ c.next_range-one.ensures.answered c.next_range-one.ensures.stored c.more_ranges-all.ensures.answered c.more_ranges-all.ensures.stored) c.fixed_after-close.ensures).1

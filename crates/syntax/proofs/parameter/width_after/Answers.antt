@@ -1,5 +1,4 @@
 use Rattle.syntax.specs.Parameter.{width_after}
-use borrow.Author.Rules.{rules}
 use Rattle.syntax.proofs.parameter.width_after.Goals as goal
 
 pub returns : goal.returns

@@ -1,6 +1,5 @@
 use Rattle.syntax.proofs.ItemSteps.{items-are, closed-are}
 use Rattle.syntax.specs.Piece.{more_bits, bracket_after}
-use borrow.Author.Rules.{rules}
 use Rattle.syntax.proofs.piece.bracket_after.Goals as goal
 
 pub returns-clause-answered : goal.returns-clause-answered

@@ -1,9 +1,6 @@
-use native.Mathlib.Omega.{arith}
-use mathlib.Core.Path.{◌≡◌, refl, ◌∙◌}
+use mathlib.Core.Path.{◌≡◌}
 use lib.ListN.{length}
-use borrow.Author.Rules.{rules}
 use Rattle.syntax.specs.Piece.{more_bits}
-use Rattle.syntax.proofs.ItemSteps.{items-full, items-end, items-on}
 use Rattle.syntax.proofs.piece.more_bits.Given as goal
 
 abbrev pub invariant-loop-room : goal.invariant-loop-room

@@ -1,7 +1,5 @@
 use native.Mathlib.Omega.{arith}
-use mathlib.Core.Path.{◌≡◌, refl, ◌∙◌}
-use lib.ListN.{length}
-use borrow.Author.Rules.{rules}
+use mathlib.Core.Path.{refl}
 use Rattle.syntax.specs.Piece.{more_pieces}
 use Rattle.syntax.proofs.ItemSteps.{items-full, items-end, items-on}
 use Rattle.syntax.proofs.piece.more_pieces.Goals as goal

@@ -2,7 +2,6 @@ use mathlib.Core.Path.{refl}
 use Rattle.syntax.specs.Piece.{named_piece, piece_after}
 use Rattle.syntax.specs.Items.{unless_full}
 use borrow.Author.Tests.{le-leb, lt-leb, eq-eqb, ne_eqb}
-use borrow.Author.Rules.{rules}
 use Rattle.syntax.proofs.piece.piece_after.Goals as goal
 
 pub returns-then-count-ge8-clause-answered : goal.returns-then-count-ge8-clause-answered

@@ -1,6 +1,5 @@
 use Rattle.syntax.proofs.ItemSteps.{items-are}
 use Rattle.syntax.specs.Piece.{pieces_after, more_pieces}
-use borrow.Author.Rules.{rules}
 use Rattle.syntax.proofs.piece.pieces_after.Goals as goal
 
 pub returns-clause-answered : goal.returns-clause-answered

@@ -1,6 +1,5 @@
 use mathlib.Core.Path.{refl, ◌∙◌}
 use Rattle.syntax.specs.Piece.{range_piece}
-use borrow.Author.Rules.{rules}
 use Rattle.syntax.proofs.ItemSteps.{full_is, room-is}
 use Rattle.syntax.proofs.piece.range_piece.Goals as goal
 

@@ -1,5 +1,4 @@
 use Rattle.syntax.specs.Reader.{token_after, bits_after}
-use borrow.Author.Rules.{rules}
 use Rattle.syntax.proofs.reader.bits_after.Goals as goal
 
 pub returns : goal.returns

@@ -1,5 +1,4 @@
 use Rattle.syntax.specs.Reader.{enclosed_after}
-use borrow.Author.Rules.{rules}
 use Rattle.syntax.proofs.reader.enclosed_after.Goals as goal
 
 pub returns : goal.returns

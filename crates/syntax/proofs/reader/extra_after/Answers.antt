@@ -1,6 +1,5 @@
 use mathlib.Core.Path.{◌∙◌}
 use Rattle.syntax.specs.Reader.{extra_after}
-use borrow.Author.Rules.{rules}
 use Rattle.syntax.proofs.reader.extra_after.Goals as goal
 
 pub returns : goal.returns

@@ -1,5 +1,4 @@
 use Rattle.syntax.specs.Reader.{seen_at}
-use borrow.Author.Rules.{rules}
 use Rattle.syntax.proofs.reader.look.Goals as goal
 
 pub returns-in_default : goal.returns-in_default

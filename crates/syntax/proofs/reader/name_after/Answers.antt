@@ -2,7 +2,6 @@ use Rattle.syntax.specs.Reader.{name_in, name_after}
 use Rattle.syntax.specs.Sizes.{long_name}
 use Rattle.syntax.proofs.Tokens.{no_name}
 use borrow.Author.Tests.{lt-ltb, le-ltb}
-use borrow.Author.Rules.{rules}
 use Rattle.syntax.proofs.reader.name_after.Goals as goal
 
 pub returns-in_default : goal.returns-in_default

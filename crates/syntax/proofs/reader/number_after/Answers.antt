@@ -1,5 +1,4 @@
 use Rattle.syntax.specs.Reader.{token_after, number_after}
-use borrow.Author.Rules.{rules}
 use Rattle.syntax.proofs.reader.number_after.Goals as goal
 
 pub returns : goal.returns

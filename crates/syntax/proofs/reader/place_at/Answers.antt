@@ -1,6 +1,5 @@
 use mathlib.Core.Path.{◌∙◌}
 use Rattle.syntax.specs.Reader.{place_at}
-use borrow.Author.Rules.{rules}
 use Rattle.syntax.proofs.reader.place_at.Goals as goal
 
 pub returns-in-Refused : goal.returns-in-Refused

@@ -1,5 +1,4 @@
 use Rattle.syntax.proofs.TextSteps.{seen-past}
-use borrow.Author.Rules.{rules}
 use Rattle.syntax.proofs.reader.seen_after.Goals as goal
 
 pub returns-then-seen-kind : goal.returns-then-seen-kind

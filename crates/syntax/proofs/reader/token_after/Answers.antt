@@ -1,6 +1,5 @@
 use Rattle.syntax.specs.Reader.{token_after, token_at, fixed_after, unexpected}
 use borrow.Author.Tests.{eq-eqb, ne_eqb}
-use borrow.Author.Rules.{rules}
 use Rattle.syntax.proofs.reader.token_after.Goals as goal
 
 pub returns-in_default : goal.returns-in_default

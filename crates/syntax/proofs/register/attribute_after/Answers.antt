@@ -1,6 +1,5 @@
 use mathlib.Core.Path.{◌∙◌}
 use Rattle.syntax.specs.Register.{attribute_after}
-use borrow.Author.Rules.{rules}
 use Rattle.syntax.proofs.register.attribute_after.Goals as goal
 
 pub returns : goal.returns

@@ -1,6 +1,5 @@
 use Rattle.syntax.specs.Register.{mark_after}
 use borrow.Author.Tests.{eq-eqb, ne_eqb}
-use borrow.Author.Rules.{rules}
 use Rattle.syntax.proofs.register.mark_after.Goals as goal
 
 pub returns-then-seen-eq-READ : goal.returns-then-seen-eq-READ

@@ -1,5 +1,4 @@
 use Rattle.syntax.specs.Register.{mask_after}
-use borrow.Author.Rules.{rules}
 use Rattle.syntax.proofs.register.mask_after.Goals as goal
 
 pub returns : goal.returns

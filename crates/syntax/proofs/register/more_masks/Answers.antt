@@ -1,7 +1,5 @@
 use native.Mathlib.Omega.{arith}
-use mathlib.Core.Path.{◌≡◌, refl, ◌∙◌}
-use lib.ListN.{length}
-use borrow.Author.Rules.{rules}
+use mathlib.Core.Path.{refl, ◌∙◌}
 use Rattle.syntax.specs.Register.{mask_turn, more_masks}
 use Rattle.syntax.proofs.LoopSteps.{sign-full, sign-end, sign-on}
 use Rattle.syntax.proofs.register.more_masks.Goals as goal

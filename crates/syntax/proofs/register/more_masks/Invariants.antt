@@ -1,9 +1,6 @@
-use native.Mathlib.Omega.{arith}
-use mathlib.Core.Path.{◌≡◌, refl, ◌∙◌}
+use mathlib.Core.Path.{◌≡◌}
 use lib.ListN.{length}
-use borrow.Author.Rules.{rules}
-use Rattle.syntax.specs.Register.{mask_turn, more_masks}
-use Rattle.syntax.proofs.LoopSteps.{sign-full, sign-end, sign-on}
+use Rattle.syntax.specs.Register.{more_masks}
 use Rattle.syntax.proofs.register.more_masks.Given as goal
 
 abbrev pub invariant-loop-room : goal.invariant-loop-room

@@ -1,6 +1,5 @@
 use Rattle.syntax.specs.Register.{offset_after}
 use borrow.Author.Tests.{eq-eqb, ne_eqb}
-use borrow.Author.Rules.{rules}
 use Rattle.syntax.proofs.register.offset_after.Goals as goal
 
 pub returns-then-seen-ne-AT : goal.returns-then-seen-ne-AT

@@ -1,5 +1,4 @@
 use Rattle.syntax.specs.Register.{port_after}
-use borrow.Author.Rules.{rules}
 use Rattle.syntax.proofs.register.port_after.Goals as goal
 
 pub returns : goal.returns

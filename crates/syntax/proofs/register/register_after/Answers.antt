@@ -1,4 +1,3 @@
-use borrow.Author.Rules.{rules}
 use Rattle.syntax.proofs.register.register_after.Goals as goal
 
 pub returns : goal.returns

@@ -1,5 +1,4 @@
 use Rattle.syntax.specs.Register.{register_after}
-use borrow.Author.Rules.{rules}
 use Rattle.syntax.proofs.register.register_behind.Goals as goal
 
 pub returns : goal.returns

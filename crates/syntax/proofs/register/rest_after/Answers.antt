@@ -1,6 +1,5 @@
 use Rattle.syntax.specs.Register.{rest_after}
 use borrow.Author.Tests.{eq-eqb, ne_eqb}
-use borrow.Author.Rules.{rules}
 use Rattle.syntax.proofs.register.rest_after.Goals as goal
 
 pub returns-then-seen-ne-COMMA : goal.returns-then-seen-ne-COMMA

@@ -1,6 +1,5 @@
 use Rattle.syntax.specs.Register.{second_marked}
 use borrow.Author.Tests.{eq-eqb, ne_eqb}
-use borrow.Author.Rules.{rules}
 use Rattle.syntax.proofs.register.second_marked.Goals as goal
 
 pub returns-then-seen-eq-MASK : goal.returns-then-seen-eq-MASK

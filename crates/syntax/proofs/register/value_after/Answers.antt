@@ -1,6 +1,5 @@
 use mathlib.Core.Path.{◌∙◌}
 use Rattle.syntax.specs.Register.{value_after}
-use borrow.Author.Rules.{rules}
 use Rattle.syntax.proofs.register.value_after.Goals as goal
 
 pub returns-in_default : goal.returns-in_default

@@ -1,6 +1,5 @@
 use Rattle.syntax.specs.Text.{declaration_with, bare}
 use borrow.Author.Tests.{eq-eqb, ne_eqb}
-use borrow.Author.Rules.{rules}
 use Rattle.syntax.proofs.text.declaration_next.Goals as goal
 
 pub returns-then-seen-eq-REGISTER : goal.returns-then-seen-eq-REGISTER

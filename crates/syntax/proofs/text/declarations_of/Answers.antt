@@ -1,5 +1,4 @@
 use Rattle.syntax.proofs.TextSteps.{declarations-are}
-use borrow.Author.Rules.{rules}
 use Rattle.syntax.proofs.text.declarations_of.Goals as goal
 
 pub returns : goal.returns

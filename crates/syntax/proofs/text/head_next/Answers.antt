@@ -1,7 +1,6 @@
 use mathlib.Core.Path.{◌∙◌, sym}
 use Rattle.syntax.specs.Text.{head_with, bare}
 use Rattle.syntax.proofs.TextSteps.{device-taken}
-use borrow.Author.Rules.{rules}
 use Rattle.syntax.proofs.text.head_next.Goals as goal
 
 pub returns : goal.returns

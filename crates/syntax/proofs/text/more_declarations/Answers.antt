@@ -1,11 +1,8 @@
 use native.Mathlib.Omega.{arith}
-use mathlib.Core.Path.{◌≡◌, refl, sym, ap, ◌∙◌}
-use lib.ListN.{length}
-use borrow.Author.Rules.{rules}
-use Rattle.syntax.specs.Text.{idle, bare, more_declarations, outlined}
+use mathlib.Core.Path.{refl, sym, ap, ◌∙◌}
+use Rattle.syntax.specs.Text.{bare, more_declarations, outlined}
 use Rattle.syntax.proofs.LoopSteps.{loop-full, turn_end, turn_on}
 use Rattle.syntax.proofs.TextSteps.{bare-is}
-use Rattle.logic.proofs.Tests.{passed, failed}
 use Rattle.syntax.proofs.text.more_declarations.Goals as goal
 
 pub loop-room-init : goal.loop-room-init

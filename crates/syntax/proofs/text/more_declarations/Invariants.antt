@@ -1,11 +1,6 @@
-use native.Mathlib.Omega.{arith}
-use mathlib.Core.Path.{◌≡◌, refl, sym, ap, ◌∙◌}
+use mathlib.Core.Path.{◌≡◌}
 use lib.ListN.{length}
-use borrow.Author.Rules.{rules}
-use Rattle.syntax.specs.Text.{idle, bare, more_declarations, outlined}
-use Rattle.syntax.proofs.LoopSteps.{loop-full, turn_end, turn_on}
-use Rattle.syntax.proofs.TextSteps.{bare-is}
-use Rattle.logic.proofs.Tests.{passed, failed}
+use Rattle.syntax.specs.Text.{idle, bare, more_declarations}
 use Rattle.syntax.proofs.text.more_declarations.Given as goal
 
 abbrev pub invariant-loop-room : goal.invariant-loop-room

@@ -1,9 +1,7 @@
 use native.Mathlib.Omega.{arith}
-use mathlib.Core.Path.{◌≡◌, refl, sym, ap, ◌∙◌}
-use lib.ListN.{length}
-use borrow.Author.Rules.{rules}
+use mathlib.Core.Path.{refl, sym, ap, ◌∙◌}
 use borrow.Author.Tests.{eq-eqb, ne_eqb}
-use Rattle.syntax.specs.Text.{idle, bare, more_parameters, outlined}
+use Rattle.syntax.specs.Text.{bare, more_parameters, outlined}
 use Rattle.syntax.proofs.LoopSteps.{loop-full, turn_end, turn_on}
 use Rattle.syntax.proofs.TextSteps.{parameter-turn}
 use Rattle.syntax.proofs.text.more_parameters.Goals as goal

@@ -1,11 +1,6 @@
-use native.Mathlib.Omega.{arith}
-use mathlib.Core.Path.{◌≡◌, refl, sym, ap, ◌∙◌}
+use mathlib.Core.Path.{◌≡◌}
 use lib.ListN.{length}
-use borrow.Author.Rules.{rules}
-use borrow.Author.Tests.{eq-eqb, ne_eqb}
-use Rattle.syntax.specs.Text.{idle, bare, more_parameters, outlined}
-use Rattle.syntax.proofs.LoopSteps.{loop-full, turn_end, turn_on}
-use Rattle.syntax.proofs.TextSteps.{parameter-turn}
+use Rattle.syntax.specs.Text.{idle, bare, more_parameters}
 use Rattle.syntax.proofs.text.more_parameters.Given as goal
 
 abbrev pub invariant-loop-room : goal.invariant-loop-room

@@ -1,6 +1,5 @@
 use Rattle.syntax.specs.Text.{parameter_with, taken, counted, moved_to, bare, outlined}
 use borrow.Author.Tests.{le-leb, lt-leb}
-use borrow.Author.Rules.{rules}
 use Rattle.syntax.proofs.text.parameter_next.Goals as goal
 
 pub returns-then-outline-ge16 : goal.returns-then-outline-ge16

@@ -1,5 +1,4 @@
 use Rattle.syntax.proofs.TextSteps.{parameters-are}
-use borrow.Author.Rules.{rules}
 use Rattle.syntax.proofs.text.parameters_of.Goals as goal
 
 pub returns : goal.returns

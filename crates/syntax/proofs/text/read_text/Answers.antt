@@ -1,5 +1,4 @@
 use Rattle.syntax.proofs.TextSteps.{text-is}
-use borrow.Author.Rules.{rules}
 use Rattle.syntax.proofs.text.read_text.Goals as goal
 
 pub returns : goal.returns

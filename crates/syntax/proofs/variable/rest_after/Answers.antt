@@ -1,7 +1,6 @@
 use mathlib.Core.Path.{refl}
 use Rattle.syntax.specs.Variable.{rest_after}
 use borrow.Author.Tests.{eq-eqb, ne_eqb}
-use borrow.Author.Rules.{rules}
 use Rattle.syntax.proofs.variable.rest_after.Goals as goal
 
 pub returns-then-seen-ne-COMMA-clause-answered : goal.returns-then-seen-ne-COMMA-clause-answered

@@ -1,7 +1,6 @@
 use mathlib.Core.Path.{refl}
 use Rattle.syntax.specs.Variable.{second_after}
 use borrow.Author.Tests.{eq-eqb, ne_eqb}
-use borrow.Author.Rules.{rules}
 use Rattle.syntax.proofs.variable.second_after.Goals as goal
 
 pub returns-then-seen-eq-VOLATILE-clause-answered : goal.returns-then-seen-eq-VOLATILE-clause-answered

@@ -1,7 +1,6 @@
 use mathlib.Core.Path.{refl}
 use Rattle.syntax.specs.Variable.{second_marked}
 use borrow.Author.Tests.{eq-eqb, ne_eqb}
-use borrow.Author.Rules.{rules}
 use Rattle.syntax.proofs.variable.second_marked.Goals as goal
 
 pub returns-then-seen-eq-TRIGGER-clause-answered : goal.returns-then-seen-eq-TRIGGER-clause-answered

@@ -1,6 +1,5 @@
 use mathlib.Core.Path.{refl}
 use Rattle.syntax.specs.Variable.{variable_after}
-use borrow.Author.Rules.{rules}
 use Rattle.syntax.proofs.variable.variable_behind.Goals as goal
 
 pub returns : goal.returns
