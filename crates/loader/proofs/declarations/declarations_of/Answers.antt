@@ -19,19 +19,19 @@ pub more_declarations-all-requires : goal.more_declarations-all-requires
 more_declarations-all-requires c = c.declaration_next-one.ensures.noted
 
 pub shape_of-registers : goal.shape_of-registers
-shape_of-registers c = c.more_declarations-all.auto.1.1.1.0 ∙ c.declaration_next-one.auto.1.1.1.1.0
+shape_of-registers c = c.more_declarations-all.auto.registers ∙ c.declaration_next-one.auto.registers
 
 pub shape_of-variables : goal.shape_of-variables
-shape_of-variables c = c.more_declarations-all.auto.1.1.1.1.0 ∙ c.declaration_next-one.auto.1.1.1.1.1.0
+shape_of-variables c = c.more_declarations-all.auto.variables ∙ c.declaration_next-one.auto.variables
 
 pub shape_of-reads : goal.shape_of-reads
-shape_of-reads c = c.more_declarations-all.auto.1.1.1.1.1.0 ∙ c.declaration_next-one.auto.1.1.1.1.1.1.0
+shape_of-reads c = c.more_declarations-all.auto.reads ∙ c.declaration_next-one.auto.reads
 
 pub shape_of-writes : goal.shape_of-writes
-shape_of-writes c = c.more_declarations-all.auto.1.1.1.1.1.1.0 ∙ c.declaration_next-one.auto.1.1.1.1.1.1.1.0
+shape_of-writes c = c.more_declarations-all.auto.writes ∙ c.declaration_next-one.auto.writes
 
 pub shape_of-known : goal.shape_of-known
-shape_of-known c = c.more_declarations-all.auto.1.1.1.1.1.1.1.0 ∙ c.declaration_next-one.auto.1.1.1.1.1.1.1.1.0
+shape_of-known c = c.more_declarations-all.auto.known ∙ c.declaration_next-one.auto.known
 
 pub returns : goal.returns
 unfolding progress_of

@@ -52,13 +52,13 @@ unfolding more_declarations progress_of
 loop-room-preserved c =
     let one = c.declaration_next-all in
     let l = c.loop-room in (
-      one.auto.1.1.1.1.0 ∙ l.invariant.0,
-      one.auto.1.1.1.1.1.0 ∙ l.invariant.1,
-      one.auto.1.1.1.1.1.1.0 ∙ l.invariant.2,
-      one.auto.1.1.1.1.1.1.1.0 ∙ l.invariant.3,
-      one.auto.1.1.1.1.1.1.1.1.0 ∙ l.invariant.4,
-      l.invariant.5 ∙ turn_on _ _ _ _ _ _ c.look-seen.ensures _ _ _ (omega (arith, c.loop-room-test.true)) (passed c.declares.ensures c.if-not-declares.false) one.ensures.0,
-      one.ensures.1,
+      one.auto.registers ∙ l.invariant.0,
+      one.auto.variables ∙ l.invariant.1,
+      one.auto.reads ∙ l.invariant.2,
+      one.auto.writes ∙ l.invariant.3,
+      one.auto.known ∙ l.invariant.4,
+      l.invariant.5 ∙ turn_on _ _ _ _ _ _ c.look-seen.ensures _ _ _ (omega (arith, c.loop-room-test.true)) (passed c.declares.ensures c.if-not-declares.false) one.ensures.read,
+      one.ensures.noted,
     )
 
 pub shape_of-registers : goal.shape_of-registers

@@ -43,6 +43,6 @@ returns c =
     let g = c.in-At.is in
     let j = c.variable_judged-judging.ensures in
     record {
-    read = variable-goes _ _ _ _ _ l e.0 f _ _ e.1 e.2 g j.0 c.with_variable.ensures;
-    noted = record { ready = variable-ready _ _ _ _ _ l e.0 f _ _ e.1 e.2 g j.0 c.with_variable.ensures c.requires.noted_2.ready j.1.0; names = known-still _ _ _ _ _ (ap (λ (l : Loading). l.judging) c.with_variable.ensures) j.1.1 }
+    read = variable-goes _ _ _ _ _ l e.0 f _ _ e.1 e.2 g j.judged c.with_variable.ensures;
+    noted = record { ready = variable-ready _ _ _ _ _ l e.0 f _ _ e.1 e.2 g j.judged c.with_variable.ensures c.requires.noted_2.ready j.mapped; names = known-still _ _ _ _ _ (ap (λ (l : Loading). l.judging) c.with_variable.ensures) j.names }
     }

@@ -41,7 +41,7 @@ unfolding unless_stopped state_of
 returns c =
     let j = c.judge_variable-judged.ensures in
     record {
-    judged = rw (sym c.is_fault.ensures ∙ c.if-is_fault.false) j.0;
-    mapped = j.1;
-    names = variable-noted _ _ _ _ _ _ c.requires.known j.0 c.word-count.ensures.is c.mark_entry.ensures
+    judged = rw (sym c.is_fault.ensures ∙ c.if-is_fault.false) j.judged;
+    mapped = j.mapped;
+    names = variable-noted _ _ _ _ _ _ c.requires.known j.judged c.word-count.ensures.is c.mark_entry.ensures
     }

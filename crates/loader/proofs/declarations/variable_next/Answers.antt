@@ -24,6 +24,3 @@ variable_due-requires c = record {
     noted_2 = c.requires.noted_2;
     word_value = c.requires.word_value
     }
-
-pub returns : goal.returns
-returns c = c.variable_due.ensures

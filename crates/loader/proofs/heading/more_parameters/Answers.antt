@@ -28,7 +28,7 @@ loop-room-smaller c = omega (arith, c.loop-room-test.true)
 
 pub loop-room-preserved : goal.loop-room-preserved
 unfolding more_parameters progress_of
-loop-room-preserved c = (c.parameter_next-all.auto.1.1.0 ∙ c.loop-room.invariant.0, c.loop-room.invariant.1 ∙ turn_on _ _ _ _ _ _ c.look-seen.ensures _ _ _ (omega (arith, c.loop-room-test.true)) (eq-eqb _ _ c.if-seen-ne-COMMA.false) (parameter-turn _ _ _ _ _ _ _ c.look-seen.ensures c.moved-behind.ensures c.parameter_next-all.ensures))
+loop-room-preserved c = (c.parameter_next-all.auto.parameters ∙ c.loop-room.invariant.0, c.loop-room.invariant.1 ∙ turn_on _ _ _ _ _ _ c.look-seen.ensures _ _ _ (omega (arith, c.loop-room-test.true)) (eq-eqb _ _ c.if-seen-ne-COMMA.false) (parameter-turn _ _ _ _ _ _ _ c.look-seen.ensures c.moved-behind.ensures c.parameter_next-all.ensures))
 
 pub shape_of-parameters : goal.shape_of-parameters
 shape_of-parameters c = c.loop-room.invariant.0

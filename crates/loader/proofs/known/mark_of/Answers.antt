@@ -17,10 +17,10 @@ pub overflow_mul-number : goal.overflow_mul-number
 overflow_mul-number c = omega (arith, c.loop-k.invariant.0)
 
 pub overflow_cast-number : goal.overflow_cast-number
-overflow_cast-number c = omega (arith, c.shared_slice_known-1.given c.loop-k.k)
+overflow_cast-number c = omega (arith, c.type_inv.name c.loop-k.k)
 
 pub overflow_add-number : goal.overflow_add-number
-overflow_add-number c = omega (arith, c.loop-k.invariant.0, c.shared_slice_known-1.given c.loop-k.k)
+overflow_add-number c = omega (arith, c.loop-k.invariant.0, c.type_inv.name c.loop-k.k)
 
 pub loop-k-preserved : goal.loop-k-preserved
 loop-k-preserved c = (mod-lt _ (omega arith), c.loop-k.invariant.1 ∙ mark_on _ _ _ c.loop-k-test.true)

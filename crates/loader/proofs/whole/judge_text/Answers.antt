@@ -18,7 +18,7 @@ declarations_of-all-requires c =
     record { ready = ready-start _ _ _ _ b _ _ c.at_start-start.ensures c.parameters_of-headed.ensures c.requires.reads_value c.requires.writes_value; names = c.mark_heading.ensures _ _ (ap count_of b.registers) (ap count_of b.variables) }
 
 pub shape_of-parameters : goal.shape_of-parameters
-shape_of-parameters c = c.parameters_of-headed.auto.1.1.0
+shape_of-parameters c = c.parameters_of-headed.auto.parameters
 
 pub returns : goal.returns
 returns c = record {

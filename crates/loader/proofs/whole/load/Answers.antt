@@ -72,13 +72,13 @@ load_into-requires c =
     sized-parts ps rs vs l
 
 pub shape_of-parameters : goal.shape_of-parameters
-shape_of-parameters c = length_front c.args.parameters.now c.load_into.new.1.0 577 c.load_into.auto.1.0
+shape_of-parameters c = length_front c.args.parameters.now c.load_into.new.parameters 577 c.load_into.auto.parameters
 
 pub shape_of-registers : goal.shape_of-registers
-shape_of-registers c = length_front c.args.registers.now c.load_into.new.1.1.0 961 c.load_into.auto.1.1.0
+shape_of-registers c = length_front c.args.registers.now c.load_into.new.registers 961 c.load_into.auto.registers
 
 pub shape_of-variables : goal.shape_of-variables
-shape_of-variables c = length_front c.args.variables.now c.load_into.new.1.1.1.0 7553 c.load_into.auto.1.1.1.0
+shape_of-variables c = length_front c.args.variables.now c.load_into.new.variables 7553 c.load_into.auto.variables
 
 pub returns : goal.returns
 returns c =
