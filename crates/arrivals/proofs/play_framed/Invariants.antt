@@ -7,7 +7,7 @@ use Rattle.frames.proofs.FrameLaws.{text-within, text-nearer}
 use Rattle.arrivals.proofs.play_framed.Given as goal
 
 abbrev pub invariant-loop-start : goal.invariant-loop-start
-invariant-loop-start l = l.at ≤ l.at
+invariant-loop-start g l = l.at ≤ l.at
 
 abbrev pub decreases-loop-start : goal.decreases-loop-start
-decreases-loop-start l = length l.input - l.at
+decreases-loop-start g l = length l.input - l.at

@@ -9,49 +9,49 @@ use Rattle.script.proofs.WordLaws.{line-within}
 use Rattle.arrivals.proofs.run.Goals as goal
 
 pub loop-at-init : goal.loop-at-init
-loop-at-init c = (refl, refl, refl, refl)
+loop-at-init g c = (refl, refl, refl, refl)
 
 pub slice_bounds-take-count : goal.slice_bounds-take-count
-slice_bounds-take-count c = (headed-within _ _ _ _ c.headed_at-frame.ensures c.in-Text.is).0
+slice_bounds-take-count g c = (headed-within _ _ _ _ c.headed_at-frame.ensures c.in-Text.is).0
 
 pub slice_bounds-take-start : goal.slice_bounds-take-start
-slice_bounds-take-start c = (headed-within _ _ _ _ c.headed_at-frame.ensures c.in-Text.is).0
+slice_bounds-take-start g c = (headed-within _ _ _ _ c.headed_at-frame.ensures c.in-Text.is).0
 
 pub slice_bounds-take-end : goal.slice_bounds-take-end
-slice_bounds-take-end c = (headed-within _ _ _ _ c.headed_at-frame.ensures c.in-Text.is).1
+slice_bounds-take-end g c = (headed-within _ _ _ _ c.headed_at-frame.ensures c.in-Text.is).1
 
 pub loop-at-smaller-in-Text : goal.loop-at-smaller-in-Text
-loop-at-smaller-in-Text c = omega (arith, c.loop-at-test.true, (headed-within _ _ _ _ c.headed_at-frame.ensures c.in-Text.is).2)
+loop-at-smaller-in-Text g c = omega (arith, c.loop-at-test.true, (headed-within _ _ _ _ c.headed_at-frame.ensures c.in-Text.is).2)
 
 pub loop-at-preserved-in-Text : goal.loop-at-preserved-in-Text
-loop-at-preserved-in-Text c = (search rules, search rules, search rules, search rules)
+loop-at-preserved-in-Text g c = (search rules, search rules, search rules, search rules)
 
 pub slice_bounds-hear-count : goal.slice_bounds-hear-count
-slice_bounds-hear-count c = (line-within _ _ _ c.line_end-to.ensures c.loop-at-test.true).0
+slice_bounds-hear-count g c = (line-within _ _ _ c.line_end-to.ensures c.loop-at-test.true).0
 
 pub slice_bounds-hear-start : goal.slice_bounds-hear-start
-slice_bounds-hear-start c = (line-within _ _ _ c.line_end-to.ensures c.loop-at-test.true).0
+slice_bounds-hear-start g c = (line-within _ _ _ c.line_end-to.ensures c.loop-at-test.true).0
 
 pub slice_bounds-hear-end : goal.slice_bounds-hear-end
-slice_bounds-hear-end c = (line-within _ _ _ c.line_end-to.ensures c.loop-at-test.true).1
+slice_bounds-hear-end g c = (line-within _ _ _ c.line_end-to.ensures c.loop-at-test.true).1
 
 pub overflow_add-at : goal.overflow_add-at
-overflow_add-at c = record { fits = omega (arith, (line-within _ _ _ c.line_end-to.ensures c.loop-at-test.true).1) }
+overflow_add-at g c = record { fits = omega (arith, (line-within _ _ _ c.line_end-to.ensures c.loop-at-test.true).1) }
 
 pub loop-at-smaller : goal.loop-at-smaller
-loop-at-smaller c = omega (arith, c.loop-at-test.true, (line-within _ _ _ c.line_end-to.ensures c.loop-at-test.true).0)
+loop-at-smaller g c = omega (arith, c.loop-at-test.true, (line-within _ _ _ c.line_end-to.ensures c.loop-at-test.true).0)
 
 pub loop-at-preserved : goal.loop-at-preserved
-loop-at-preserved c = (search rules, search rules, search rules, search rules)
+loop-at-preserved g c = (search rules, search rules, search rules, search rules)
 
 pub shape_of-store : goal.shape_of-store
-shape_of-store c = c.loop-at.invariant.0
+shape_of-store g c = c.loop-at.invariant.0
 
 pub shape_of-parameters : goal.shape_of-parameters
-shape_of-parameters c = c.loop-at.invariant.1
+shape_of-parameters g c = c.loop-at.invariant.1
 
 pub shape_of-registers : goal.shape_of-registers
-shape_of-registers c = c.loop-at.invariant.2
+shape_of-registers g c = c.loop-at.invariant.2
 
 pub shape_of-variables : goal.shape_of-variables
-shape_of-variables c = c.loop-at.invariant.3
+shape_of-variables g c = c.loop-at.invariant.3

@@ -9,7 +9,7 @@ use Rattle.script.proofs.WordLaws.{line-within}
 use Rattle.arrivals.proofs.run.Given as goal
 
 abbrev pub invariant-loop-at : goal.invariant-loop-at
-invariant-loop-at l = (length l.store ≡ length l.initial.store) × (length l.parameters ≡ length l.initial.parameters) × (length l.registers ≡ length l.initial.registers) × (length l.variables ≡ length l.initial.variables)
+invariant-loop-at g l = (length l.store ≡ length l.initial.store) × (length l.parameters ≡ length l.initial.parameters) × (length l.registers ≡ length l.initial.registers) × (length l.variables ≡ length l.initial.variables)
 
 abbrev pub decreases-loop-at : goal.decreases-loop-at
-decreases-loop-at l = length l.calls - l.at
+decreases-loop-at g l = length l.calls - l.at

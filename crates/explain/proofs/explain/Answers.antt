@@ -6,4 +6,4 @@ use Rattle.explain.proofs.explain.Goals as goal
 
 pub judge_all-judging-requires : goal.judge_all-judging-requires
 unfolding lent_as tables_of beginning
-judge_all-judging-requires c = refl
+judge_all-judging-requires g c = refl

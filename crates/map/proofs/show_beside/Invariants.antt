@@ -5,7 +5,7 @@ use Prim.Native.Nat.{◌≤◌, ◌-◌}
 use Rattle.map.proofs.show_beside.Given as goal
 
 abbrev pub invariant-loop-j : goal.invariant-loop-j
-invariant-loop-j l = l.j ≤ l.j
+invariant-loop-j g l = l.j ≤ l.j
 
 abbrev pub decreases-loop-j : goal.decreases-loop-j
-decreases-loop-j l = l.i - l.j
+decreases-loop-j g l = l.i - l.j

@@ -10,8 +10,8 @@ use Rattle.readings.proofs.main.Goals as goal
 
 -- src/main.rt:102:5
 pub loop-blocks-init : goal.loop-blocks-init
-loop-blocks-init c = refl
+loop-blocks-init g c = refl
 
 -- src/main.rt:103:34
 pub slice_bounds-read_full-end : goal.slice_bounds-read_full-end
-slice_bounds-read_full-end c = sym c.loop-blocks.invariant
+slice_bounds-read_full-end g c = sym c.loop-blocks.invariant

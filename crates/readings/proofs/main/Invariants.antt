@@ -9,7 +9,7 @@ use Rattle.readings.proofs.tell_all.Reads as tell-all-reads
 use Rattle.readings.proofs.main.Given as goal
 
 abbrev pub invariant-loop-blocks : goal.invariant-loop-blocks
-invariant-loop-blocks l = length l.block ≡ 20480
+invariant-loop-blocks g l = length l.block ≡ 20480
 
 abbrev pub decreases-loop-blocks : goal.decreases-loop-blocks
-decreases-loop-blocks l = l.blocks
+decreases-loop-blocks g l = l.blocks

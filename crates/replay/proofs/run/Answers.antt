@@ -9,43 +9,43 @@ use Rattle.script.proofs.WordLaws.{line-within}
 use Rattle.replay.proofs.run.Goals as goal
 
 pub loop-at-init : goal.loop-at-init
-loop-at-init c = (refl, refl, refl, refl, refl)
+loop-at-init g c = (refl, refl, refl, refl, refl)
 
 pub slice_bounds-run_script-count : goal.slice_bounds-run_script-count
-slice_bounds-run_script-count c = (text-within _ _ _ c.frame_at-frame.ensures c.in-Text.is).0
+slice_bounds-run_script-count g c = (text-within _ _ _ c.frame_at-frame.ensures c.in-Text.is).0
 
 pub slice_bounds-run_script-start : goal.slice_bounds-run_script-start
-slice_bounds-run_script-start c = (text-within _ _ _ c.frame_at-frame.ensures c.in-Text.is).0
+slice_bounds-run_script-start g c = (text-within _ _ _ c.frame_at-frame.ensures c.in-Text.is).0
 
 pub slice_bounds-run_script-end : goal.slice_bounds-run_script-end
-slice_bounds-run_script-end c = (text-within _ _ _ c.frame_at-frame.ensures c.in-Text.is).1
+slice_bounds-run_script-end g c = (text-within _ _ _ c.frame_at-frame.ensures c.in-Text.is).1
 
 pub loop-at-smaller-in-Text : goal.loop-at-smaller-in-Text
-loop-at-smaller-in-Text c = omega (arith, c.loop-at-test.true, c.run_script-at.ensures, (text-within _ _ _ c.frame_at-frame.ensures c.in-Text.is).2)
+loop-at-smaller-in-Text g c = omega (arith, c.loop-at-test.true, c.run_script-at.ensures, (text-within _ _ _ c.frame_at-frame.ensures c.in-Text.is).2)
 
 pub loop-at-preserved-in-Text : goal.loop-at-preserved-in-Text
-loop-at-preserved-in-Text c = (search rules, search rules, search rules, search rules, search rules)
+loop-at-preserved-in-Text g c = (search rules, search rules, search rules, search rules, search rules)
 
 pub overflow_add-at : goal.overflow_add-at
-overflow_add-at c = record { fits = omega (arith, (line-within _ _ _ c.line_end-end.ensures c.loop-at-test.true).1) }
+overflow_add-at g c = record { fits = omega (arith, (line-within _ _ _ c.line_end-end.ensures c.loop-at-test.true).1) }
 
 pub loop-at-smaller : goal.loop-at-smaller
-loop-at-smaller c = omega (arith, c.loop-at-test.true, (line-within _ _ _ c.line_end-end.ensures c.loop-at-test.true).0)
+loop-at-smaller g c = omega (arith, c.loop-at-test.true, (line-within _ _ _ c.line_end-end.ensures c.loop-at-test.true).0)
 
 pub loop-at-preserved : goal.loop-at-preserved
-loop-at-preserved c = c.loop-at.invariant
+loop-at-preserved g c = c.loop-at.invariant
 
 pub shape_of-parameters : goal.shape_of-parameters
-shape_of-parameters c = c.loop-at.invariant.0
+shape_of-parameters g c = c.loop-at.invariant.0
 
 pub shape_of-registers : goal.shape_of-registers
-shape_of-registers c = c.loop-at.invariant.1
+shape_of-registers g c = c.loop-at.invariant.1
 
 pub shape_of-variables : goal.shape_of-variables
-shape_of-variables c = c.loop-at.invariant.2
+shape_of-variables g c = c.loop-at.invariant.2
 
 pub shape_of-kept : goal.shape_of-kept
-shape_of-kept c = c.loop-at.invariant.3
+shape_of-kept g c = c.loop-at.invariant.3
 
 pub shape_of-marks : goal.shape_of-marks
-shape_of-marks c = c.loop-at.invariant.4
+shape_of-marks g c = c.loop-at.invariant.4

@@ -8,40 +8,40 @@ use Rattle.script.proofs.WordLaws.{line-within}
 use Rattle.replay.proofs.run_calls.Goals as goal
 
 pub loop-at-init : goal.loop-at-init
-loop-at-init c = (omega arith, refl, refl)
+loop-at-init g c = (omega arith, refl, refl)
 
 pub shape_of-kept-then-is_text : goal.shape_of-kept-then-is_text
-shape_of-kept-then-is_text c = c.loop-at.invariant.1
+shape_of-kept-then-is_text g c = c.loop-at.invariant.1
 
 pub shape_of-marks-then-is_text : goal.shape_of-marks-then-is_text
-shape_of-marks-then-is_text c = c.loop-at.invariant.2
+shape_of-marks-then-is_text g c = c.loop-at.invariant.2
 
 pub returns-then-is_text : goal.returns-then-is_text
-returns-then-is_text c = c.loop-at.invariant.0
+returns-then-is_text g c = c.loop-at.invariant.0
 
 pub slice_bounds-hear-count : goal.slice_bounds-hear-count
-slice_bounds-hear-count c = (line-within _ _ _ c.line_end-end.ensures c.loop-at-test.true).0
+slice_bounds-hear-count g c = (line-within _ _ _ c.line_end-end.ensures c.loop-at-test.true).0
 
 pub slice_bounds-hear-start : goal.slice_bounds-hear-start
-slice_bounds-hear-start c = (line-within _ _ _ c.line_end-end.ensures c.loop-at-test.true).0
+slice_bounds-hear-start g c = (line-within _ _ _ c.line_end-end.ensures c.loop-at-test.true).0
 
 pub slice_bounds-hear-end : goal.slice_bounds-hear-end
-slice_bounds-hear-end c = (line-within _ _ _ c.line_end-end.ensures c.loop-at-test.true).1
+slice_bounds-hear-end g c = (line-within _ _ _ c.line_end-end.ensures c.loop-at-test.true).1
 
 pub overflow_add-at : goal.overflow_add-at
-overflow_add-at c = let next : c.line_end-end.result + 1 < 2 ^ 64 = omega (arith, c.well-formed.0.1, (line-within _ _ _ c.line_end-end.ensures c.loop-at-test.true).1) in record { fits = next }
+overflow_add-at g c = let next : c.line_end-end.result + 1 < 2 ^ 64 = omega (arith, c.well-formed.0.1, (line-within _ _ _ c.line_end-end.ensures c.loop-at-test.true).1) in record { fits = next }
 
 pub loop-at-smaller : goal.loop-at-smaller
-loop-at-smaller c = omega (arith, c.loop-at-test.true, (line-within _ _ _ c.line_end-end.ensures c.loop-at-test.true).0)
+loop-at-smaller g c = omega (arith, c.loop-at-test.true, (line-within _ _ _ c.line_end-end.ensures c.loop-at-test.true).0)
 
 pub loop-at-preserved : goal.loop-at-preserved
-loop-at-preserved c = (omega (arith, c.loop-at.invariant.0, (line-within _ _ _ c.line_end-end.ensures c.loop-at-test.true).0), search rules, search rules)
+loop-at-preserved g c = (omega (arith, c.loop-at.invariant.0, (line-within _ _ _ c.line_end-end.ensures c.loop-at-test.true).0), search rules, search rules)
 
 pub shape_of-kept : goal.shape_of-kept
-shape_of-kept c = c.loop-at.invariant.1
+shape_of-kept g c = c.loop-at.invariant.1
 
 pub shape_of-marks : goal.shape_of-marks
-shape_of-marks c = c.loop-at.invariant.2
+shape_of-marks g c = c.loop-at.invariant.2
 
 pub returns : goal.returns
-returns c = c.loop-at.invariant.0
+returns g c = c.loop-at.invariant.0

@@ -8,7 +8,7 @@ use Rattle.script.proofs.WordLaws.{line-within}
 use Rattle.replay.proofs.run_calls.Given as goal
 
 abbrev pub invariant-loop-at : goal.invariant-loop-at
-invariant-loop-at l = (l.from ≤ l.at) × (length l.kept ≡ length l.initial.kept) × (length l.marks ≡ length l.initial.marks)
+invariant-loop-at g l = (l.from ≤ l.at) × (length l.kept ≡ length l.initial.kept) × (length l.marks ≡ length l.initial.marks)
 
 abbrev pub decreases-loop-at : goal.decreases-loop-at
-decreases-loop-at l = length l.input - l.at
+decreases-loop-at g l = length l.input - l.at

@@ -20,4 +20,4 @@ ahead c =
     (passes _ _ (ap (λ r. goes_on_lem r.token) (sym e) ∙ sym c.goes_on.ensures ∙ c.if-goes_on.true))
 
 pub loop-at-smaller : goal.loop-at-smaller
-loop-at-smaller c = omega (arith, ahead (goal.at.loop-at-smaller c).Then-goes_on)
+loop-at-smaller g c = omega (arith, ahead (goal.at.loop-at-smaller g c).Then-goes_on)

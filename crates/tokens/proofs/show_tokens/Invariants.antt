@@ -9,7 +9,7 @@ use Rattle.token.proofs.Laws.{passes}
 use Rattle.tokens.proofs.show_tokens.Given as goal
 
 abbrev pub invariant-loop-at : goal.invariant-loop-at
-invariant-loop-at l = l.at ≤ l.at
+invariant-loop-at g l = l.at ≤ l.at
 
 abbrev pub decreases-loop-at : goal.decreases-loop-at
-decreases-loop-at l = length l.text - l.at
+decreases-loop-at g l = length l.text - l.at

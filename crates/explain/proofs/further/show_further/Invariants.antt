@@ -6,7 +6,7 @@ use lib.ListN.{length}
 use Rattle.explain.proofs.further.show_further.Given as goal
 
 abbrev pub invariant-loop-left : goal.invariant-loop-left
-invariant-loop-left l = length l.store ≡ 8192
+invariant-loop-left g l = length l.store ≡ 8192
 
 abbrev pub decreases-loop-left : goal.decreases-loop-left
-decreases-loop-left l = l.left
+decreases-loop-left g l = l.left

@@ -6,7 +6,7 @@ use Prim.Native.Nat.{◌≤◌, ◌-◌}
 use Rattle.explain.proofs.source.show_bytes.Given as goal
 
 abbrev pub invariant-loop-k : goal.invariant-loop-k
-invariant-loop-k l = l.k ≤ l.k
+invariant-loop-k g l = l.k ≤ l.k
 
 abbrev pub decreases-loop-k : goal.decreases-loop-k
-decreases-loop-k l = length l.bytes - l.k
+decreases-loop-k g l = length l.bytes - l.k

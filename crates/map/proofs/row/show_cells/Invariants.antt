@@ -5,7 +5,7 @@ use Prim.Native.Nat.{◌≤◌}
 use Rattle.map.proofs.row.show_cells.Given as goal
 
 abbrev pub invariant-loop-here : goal.invariant-loop-here
-invariant-loop-here l = l.here ≤ l.here
+invariant-loop-here g l = l.here ≤ l.here
 
 abbrev pub decreases-loop-here : goal.decreases-loop-here
-decreases-loop-here l = l.here
+decreases-loop-here g l = l.here

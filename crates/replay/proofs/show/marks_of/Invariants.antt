@@ -6,7 +6,7 @@ use lib.ListN.{length}
 use Rattle.replay.proofs.show.marks_of.Given as goal
 
 abbrev pub invariant-loop-i : goal.invariant-loop-i
-invariant-loop-i l = l.i ≤ l.i
+invariant-loop-i g l = l.i ≤ l.i
 
 abbrev pub decreases-loop-i : goal.decreases-loop-i
-decreases-loop-i l = length l.list - l.i
+decreases-loop-i g l = length l.list - l.i

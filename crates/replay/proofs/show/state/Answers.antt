@@ -5,7 +5,7 @@ use borrow.Author.Rules.{rules}
 use Rattle.replay.proofs.show.state.Goals as goal
 
 pub slice_bounds-numbers_of-end : goal.slice_bounds-numbers_of-end
-slice_bounds-numbers_of-end c = sym (length-take-le _ _ c.lent-held.ensures.upper_bound)
+slice_bounds-numbers_of-end g c = sym (length-take-le _ _ c.lent-held.ensures.upper_bound)
 
 pub slice_bounds-marks_of-end : goal.slice_bounds-marks_of-end
-slice_bounds-marks_of-end c = sym (length-take-le _ _ c.lent-marked.ensures.upper_bound)
+slice_bounds-marks_of-end g c = sym (length-take-le _ _ c.lent-marked.ensures.upper_bound)

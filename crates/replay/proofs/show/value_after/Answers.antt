@@ -11,7 +11,7 @@ use borrow.Author.Rules.{rules}
 use Rattle.replay.proofs.show.value_after.Goals as goal
 
 pub overflow_add-below_zero : goal.overflow_add-below_zero
-overflow_add-below_zero c = record { fits = omega (arith, c.below_zero.ensures.small) }
+overflow_add-below_zero g c = record { fits = omega (arith, c.below_zero.ensures.small) }
 
 pub overflow_cast-value : goal.overflow_cast-value
-overflow_cast-value c = subst (λ (y : ℤ). T (non_neg y) × Fits w64 (nat_abs y)) (sym (natural-bits c.args.value c.ranges.value c.if-value-lt0.false)) (tt, record { fits = omega (arith, c.ranges.value.sfits) })
+overflow_cast-value g c = subst (λ (y : ℤ). T (non_neg y) × Fits w64 (nat_abs y)) (sym (natural-bits c.args.value c.ranges.value c.if-value-lt0.false)) (tt, record { fits = omega (arith, c.ranges.value.sfits) })

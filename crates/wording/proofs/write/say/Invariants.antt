@@ -5,7 +5,7 @@ use Prim.Native.Nat.{◌≤◌}
 use Rattle.wording.proofs.write.say.Given as goal
 
 abbrev pub invariant-loop-room : goal.invariant-loop-room
-invariant-loop-room l = l.room ≤ l.room
+invariant-loop-room g l = l.room ≤ l.room
 
 abbrev pub decreases-loop-room : goal.decreases-loop-room
-decreases-loop-room l = l.room
+decreases-loop-room g l = l.room
