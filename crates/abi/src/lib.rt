@@ -2,7 +2,7 @@
 // words stand for an operation and an answer, specs/Loading.antt for a verdict, specs/Arriving.antt for the reply to a
 // piece. Each function takes its words apart, calls, and puts the answer together.
 //   held       the record: for each register the number last confirmed as written, at first the power-on number
-//   marks      for each variable 0, or 1 where an abandoned write left it half_written_lem
+//   marks      for each variable 0, or 1 where an abandoned write left it half-written
 //   operation  four words: the operation in hand
 //   answer     five words: the call's answer
 // Nothing is written past a slice's end. The number returned is the refusal's, and 0 where there is none.

@@ -1,32 +1,20 @@
 -- `abi::desfanuk_begin_read` meets its contract: the station keeps its promise, and `tell` says in words what it
 -- answered.
-use Rattle.tables.specs.View.{Tables, sound}
+use Rattle.tables.specs.View.{sound}
 use Rattle.station.specs.declared.Operation.{Operation}
 use Rattle.station.specs.Standing.{tables_of}
-use Rattle.station.specs.Calls.{Outcome, begin_read}
+use Rattle.station.specs.Calls.{begin_read}
 use Rattle.station.specs.Promise.{lent}
 use Rattle.abi.proofs.SmallLaws.{begin_read-small}
 use Rattle.abi.proofs.Telling.{tells, small_by}
 use borrow.Author.Rules.{rules}
 use Rattle.abi.proofs.desfanuk_begin_read.Goals as goal
 
-abbrev start : tie.After-begin-read → tie.Start
-start c = c.before.before.before.before.before.before.before.before.before
-
-abbrev tables-at : tie.Start → Tables
-tables-at s = tables_of s.args.parameters.now s.args.registers.now s.args.variables.now
+pub tell-requires : goal.tell-requires
+tell-requires c = small_by c.begin_read-outcome.ensures (begin_read-small (tables_of c.args.parameters.now c.args.registers.now c.args.variables.now) c.type_inv.registers (lent c.args.held.now c.args.marks.now c.operation_of-in_hand.result) c.args.variable)
 
 -- the call, as a function of the operation in hand
-abbrev call : tie.Start → Operation → Outcome
-call s operation = begin_read sound (tables-at s) (lent s.args.held.now s.args.marks.now operation) s.args.variable
-
-pub tell-requires : goal.tell-requires
-tell-requires c =
-    
-    let s = start (goal.at.tell-requires c).After-begin_read-outcome in
-    small_by c.begin_read-outcome.ensures (begin_read-small (tables-at s) c.shared_slice_known-2-1.given (lent s.args.held.now s.args.marks.now c.operation_of-in_hand.result) s.args.variable)
-
 pub returns : goal.returns
 returns c =
-    
-    tells (call (start (goal.at.returns c).After-begin_read-outcome)) c.operation_of-in_hand.ensures c.begin_read-outcome.ensures c.tell.ensures
+    tells (λ (operation : Operation). begin_read sound (tables_of c.args.parameters.now c.args.registers.now c.args.variables.now) (lent c.args.held.now c.args.marks.now operation) c.args.variable)
+    c.operation_of-in_hand.ensures c.begin_read-outcome.ensures c.tell.ensures

@@ -9,7 +9,7 @@ use borrow.Author.Rules.{rules}
 use Rattle.abi.proofs.desfanuk_confirm_in_units.Goals as goal
 
 pub tell_units-requires : goal.tell_units-requires
-tell_units-requires c = units-small_by c.confirm_in_units-outcome.result c.confirm_in_units-outcome.ensures (confirm_in_units-small (tables_of c.args.parameters.now c.args.registers.now c.args.variables.now) c.shared_slice_known-2-1.given (lent c.args.held.now c.args.marks.now c.operation_of-in_hand.result) c.args.number c.calibration_of-calibration.result)
+tell_units-requires c = units-small_by c.confirm_in_units-outcome.result c.confirm_in_units-outcome.ensures (confirm_in_units-small (tables_of c.args.parameters.now c.args.registers.now c.args.variables.now) c.type_inv.registers (lent c.args.held.now c.args.marks.now c.operation_of-in_hand.result) c.args.number c.calibration_of-calibration.result)
 
 pub returns : goal.returns
 returns c = tells-units (λ (o : Operation) (k : Calibration). confirm_in_units sound (tables_of c.args.parameters.now c.args.registers.now c.args.variables.now) (lent c.args.held.now c.args.marks.now o) c.args.number k) c.operation_of-in_hand.ensures c.calibration_of-calibration.ensures c.confirm_in_units-outcome.result c.confirm_in_units-outcome.ensures c.tell_units.ensures

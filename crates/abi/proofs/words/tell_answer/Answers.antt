@@ -1,4 +1,5 @@
 -- `abi::words::tell_answer` meets its contract: a case for each answer.
+use mir.Syntax.{w64}
 use mir.Facts.{to_z-of_z}
 use mathlib.Core.Path.{refl}
 use lib.IntN.{pos}
@@ -31,7 +32,7 @@ pub returns-in-Offer : goal.returns-in-Offer
 returns-in-Offer c = rw c.in-Offer.is c.tell_offer.ensures
 
 pub returns-in-Done : goal.returns-in-Done
-returns-in-Done c = rw c.in-Done.is (fields c.args.words.now (pos 3) c.put_answer-in-Done.ensures (to_z-of_z (record { sfits = c.known_told-in-Done-1.given.0.1 })) (said _ (rw c.in-Done.is at c.requires) c.signed-in-Done.ensures) refl refl)
+returns-in-Done c = rw c.in-Done.is (fields c.args.words.now (pos 3) c.put_answer-in-Done.ensures (to_z-of_z {w = w64} (search rules)) (said _ (rw c.in-Done.is at c.requires) c.signed-in-Done.ensures) refl refl)
 
 pub returns-in-Abandoned : goal.returns-in-Abandoned
 returns-in-Abandoned c = rw c.in-Abandoned.is c.put_answer-in-Abandoned.ensures
