@@ -1,16 +1,18 @@
 //! What a document names: files and folders of the tree, and things in them.
 
+use crate::tree::is_kept;
+
 /// The folders in which a path that a document names may begin.
 const TOPS: [&str; 6] = ["boards/", "crates/", "docs/", "include/", "rust/", ".ci/"];
 
 /// The paths in a text: words that begin in one of the folders. A path with a `*` or with a word in capitals, as NAME,
-/// stands for many and is left out.
+/// stands for many and is left out, and so is what is there only once it is built.
 pub fn paths(text: &str) -> Vec<String> {
     let ends = |c: char| c.is_whitespace() || "`()[],;:\"'|<>".contains(c);
     let words = text.split(ends).map(|w| w.trim_end_matches(['.', '/']));
     let paths = words.filter(|w| TOPS.iter().any(|top| w.starts_with(top)));
     paths
-        .filter(|w| !w.contains(['*', '{', '}']) && !stands_for_many(w))
+        .filter(|w| !w.contains(['*', '{', '}']) && !stands_for_many(w) && !is_kept(w))
         .map(String::from)
         .collect()
 }
@@ -120,7 +122,7 @@ mod tests {
 
     #[test]
     fn paths_and_names_are_found() {
-        let text = "See crates/bits/specs/Bits.antt, (docs/CLAIMS.md) and crates/NAME/src: `demand-3` of `x`, not \
+        let text = "See crates/bits/specs/Bits.antt, (docs/CLAIMS.md), crates/abi/out/libabi.a and crates/NAME/src: `demand-3` of `x`, not \
             `a b-c`, and `Keeps .read-confirmed`, `told_apart-bit`, `bitsOf`, `begin_read`, `GoesByPlan`, `NAME`.";
         assert_eq!(
             paths(text),

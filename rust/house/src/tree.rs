@@ -22,9 +22,9 @@ pub fn below(folder: &str, ending: &str) -> Vec<File> {
     files
 }
 
-fn is_kept(path: &str) -> bool {
-    let of_crate = path.strip_prefix("crates/").and_then(|p| p.split_once('/'));
-    of_crate.is_some_and(|(_, inside)| inside == "out")
+/// Is this, from the repository's root, what `rt` keeps or makes?
+pub fn is_kept(path: &str) -> bool {
+    path.starts_with("crates/") && path.split('/').nth(2) == Some("out")
 }
 
 fn gather(at: &Path, path: &str, ending: &str, files: &mut Vec<File>) {
@@ -51,6 +51,7 @@ mod tests {
     #[test]
     fn what_rt_keeps_is_left_out() {
         assert!(is_kept("crates/bits/out"));
+        assert!(is_kept("crates/abi/out/libabi.a"));
         assert!(!is_kept("crates/bits/src"));
         assert!(!is_kept("crates/bits/proofs/out"));
         assert!(!is_kept("rust/out"));
