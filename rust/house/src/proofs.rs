@@ -48,16 +48,24 @@ fn is_law(block: &[&str]) -> bool {
 }
 
 /// What a function's proof argues itself, in Answers.antt: its clauses, but for those that the checker finds, that hold
-/// by facts at hand, or that cite a law on such facts.
+/// by facts at hand, or that cite a law on such facts. What several promises ask at one place is one clause.
 pub fn argued(name: &str, text: &str) -> Argument {
     let laws = cited(text);
-    let own = clauses(text).into_iter().filter(|c| argues(c, &laws));
-    let own: Vec<String> = own.map(|c| shape(&c)).collect();
+    let mut own = clauses(text);
+    own.retain(|c| argues(c, &laws));
+    let places: HashSet<&str> = own.iter().map(|c| place(c)).collect();
+    let shapes: Vec<String> = own.iter().map(|c| shape(c)).collect();
     Argument {
         name: name.to_string(),
-        lines: own.len(),
-        shape: own.join("\n"),
+        lines: places.len(),
+        shape: shapes.join("\n"),
     }
+}
+
+/// The place of the code that a clause is about: `returns-then-on` of `returns-then-on-clause-stored c = ..`.
+fn place(clause: &str) -> &str {
+    let name = clause.split(' ').next().unwrap();
+    name.split("-clause-").next().unwrap()
 }
 
 /// The laws that a function's proof may cite: what it takes from another place than the specifications of a crate here,
@@ -186,6 +194,15 @@ mod tests {
         );
         assert_eq!(lines("returns c = rw (law c.if-on.true)\n"), 1);
         assert_eq!(lines("returns c =\n    c.loop-i.invariant ∙ law _\n"), 1);
+    }
+
+    #[test]
+    fn what_is_promised_at_one_place_is_one_clause() {
+        let lines = |text: &str| argued("f", text).lines;
+        let two = "returns-clause-is c = law c ∙ refl\nreturns-clause-was c = law c ∙ refl\n";
+        assert_eq!(lines(two), 1);
+        let more = "returns-then-on-clause-is c = law c ∙ refl\n";
+        assert_eq!(lines(&format!("{two}{more}")), 2);
     }
 
     #[test]
