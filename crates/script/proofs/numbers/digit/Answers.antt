@@ -2,7 +2,6 @@
 use Rattle.token.specs.Number.{digit_of}
 use Rattle.token.specs.Bytes.{within}
 use Rattle.token.proofs.Bools.{within_both}
-use borrow.Author.Rules.{rules}
 use Rattle.script.proofs.numbers.digit.Goals as goal
 
 pub overflow_sub-result : goal.overflow_sub-result

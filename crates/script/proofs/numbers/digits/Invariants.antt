@@ -1,14 +1,8 @@
 -- `script::numbers::digits` meets its contract. Assumes nothing.
-use native.Mathlib.Omega.{arith}
-use borrow.Author.Rules.{rules}
-use mathlib.Core.Path.{◌≡◌, sym, ◌∙◌}
-use mathlib.Core.Bool.{true}
+use mathlib.Core.Path.{◌≡◌}
 use Prim.Native.Nat.{◌-◌}
-use lib.ListN.{length, drop, get_or}
-use borrow.Author.Tests.{le-ltb, lt-ltb}
-use Rattle.token.specs.Number.{is_digit}
+use lib.ListN.{length, drop}
 use Rattle.script.specs.Numbers.{figures, figures_from}
-use Rattle.script.proofs.NumberLaws.{figures-none, figures-some, next_fits, next-too_large, figures-end, figures-no-digit, figures-too_large, figures-on}
 use Rattle.script.proofs.numbers.digits.Given as goal
 
 abbrev pub invariant-loop-i : goal.invariant-loop-i

@@ -1,7 +1,6 @@
 -- `script::numbers::has_minus` meets its contract. Assumes nothing.
 use mathlib.Core.Path.{sym}
 use Rattle.script.proofs.NumberLaws.{begins-one, begins-nothing}
-use borrow.Author.Rules.{rules}
 use Rattle.script.proofs.numbers.has_minus.Goals as goal
 
 pub returns-then-word-gt0 : goal.returns-then-word-gt0

@@ -1,7 +1,6 @@
 -- `script::numbers::has_prefix` meets its contract. Assumes nothing.
 use mathlib.Core.Path.{sym}
 use Rattle.script.proofs.NumberLaws.{begins-two, begins-short}
-use borrow.Author.Rules.{rules}
 use Rattle.script.proofs.numbers.has_prefix.Goals as goal
 
 pub returns-then-word-gt1 : goal.returns-then-word-gt1

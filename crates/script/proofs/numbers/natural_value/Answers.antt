@@ -4,7 +4,6 @@ use Rattle.script.proofs.NumberLaws.{natural-fits, natural-too_large}
 use Rattle.bits.proofs.Signed.{natural-read}
 use Rattle.script.specs.Numbers.{natural}
 use Rattle.script.specs.declared.numbers.Value.TheVariants.{Is}
-use borrow.Author.Rules.{rules}
 use Rattle.script.proofs.numbers.natural_value.Goals as goal
 
 pub returns-then-size-lt-LIMIT : goal.returns-then-size-lt-LIMIT

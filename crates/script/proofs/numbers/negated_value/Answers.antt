@@ -7,7 +7,6 @@ use Rattle.bits.proofs.Signed.{minus_one, negative-read}
 use Rattle.script.specs.Numbers.{negated}
 use Rattle.script.specs.declared.numbers.Value.TheVariants.{Is}
 use Rattle.script.proofs.NumberLaws.{negated-zero, negated_fits, negated-too_large}
-use borrow.Author.Rules.{rules}
 use Rattle.script.proofs.numbers.negated_value.Goals as goal
 
 pub returns-then-size-eq0 : goal.returns-then-size-eq0

@@ -3,7 +3,6 @@ use mathlib.Core.Path.{sym, ap, ◌∙◌}
 use Rattle.script.specs.Numbers.{number_of, figures}
 use Rattle.script.proofs.NumberLaws.{begins-room}
 use Rattle.script.proofs.WordLaws.{all_of}
-use borrow.Author.Rules.{rules}
 use Rattle.script.proofs.numbers.number_of.Goals as goal
 
 pub slice_bounds-digits-count : goal.slice_bounds-digits-count

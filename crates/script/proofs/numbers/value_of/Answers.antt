@@ -3,7 +3,6 @@ use Rattle.script.specs.Numbers.{value_of, natural, negated, number_of}
 use mathlib.Core.Path.{sym, ap, ◌∙◌}
 use Rattle.script.proofs.NumberLaws.{begins-room}
 use Rattle.script.proofs.WordLaws.{all_of}
-use borrow.Author.Rules.{rules}
 use Rattle.script.proofs.numbers.value_of.Goals as goal
 
 pub slice_bounds-number_of-count : goal.slice_bounds-number_of-count

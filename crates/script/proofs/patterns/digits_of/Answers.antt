@@ -1,7 +1,6 @@
 use native.Mathlib.Omega.{arith}
 use mathlib.Core.Path.{refl}
-use borrow.Author.Rules.{rules}
-use Rattle.script.proofs.PatternLaws.{Spelled, none-spelled, one_more_lem, all-spelled}
+use Rattle.script.proofs.PatternLaws.{none-spelled, one_more_lem, all-spelled}
 use Rattle.script.proofs.patterns.digits_of.Goals as goal
 
 pub loop-i-init : goal.loop-i-init

@@ -1,7 +1,4 @@
-use native.Mathlib.Omega.{arith}
-use mathlib.Core.Path.{refl}
-use borrow.Author.Rules.{rules}
-use Rattle.script.proofs.PatternLaws.{Spelled, none-spelled, one_more_lem, all-spelled}
+use Rattle.script.proofs.PatternLaws.{Spelled}
 use Rattle.script.proofs.patterns.digits_of.Given as goal
 
 abbrev pub invariant-loop-i : goal.invariant-loop-i

@@ -1,5 +1,4 @@
 use Rattle.script.proofs.PatternLaws.{low-figure, high-figure}
-use borrow.Author.Rules.{rules}
 use Rattle.script.proofs.patterns.figure.Goals as goal
 
 pub returns-then-digit-lt10 : goal.returns-then-digit-lt10

@@ -1,6 +1,5 @@
 use borrow.Author.Tests.{ne_eqb}
 use Rattle.script.specs.Patterns.{pattern_of}
-use borrow.Author.Rules.{rules}
 use Rattle.script.proofs.patterns.pattern_of.Goals as goal
 
 pub returns-then-word-eq16 : goal.returns-then-word-eq16

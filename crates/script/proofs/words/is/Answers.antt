@@ -1,9 +1,6 @@
 -- `script::words::is` meets its contract. Assumes nothing.
 use borrow.Author.Rules.{rules}
-use mathlib.Core.Path.{◌≡◌, refl, sym, ◌∙◌}
-use Prim.Native.Nat.{◌-◌}
-use lib.ListN.{length, drop}
-use Rattle.token.specs.Bytes.{same}
+use mathlib.Core.Path.{refl, sym, ◌∙◌}
 use Rattle.token.proofs.Same.{same-unlike}
 use Rattle.script.proofs.WordLaws.{same_end, same-on, same_differs}
 use Rattle.script.proofs.words.is.Goals as goal

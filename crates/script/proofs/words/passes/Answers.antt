@@ -2,7 +2,6 @@
 use mathlib.Core.Path.{ap}
 use mathlib.Core.Bool.{not}
 use Rattle.script.specs.Words.{test_of}
-use borrow.Author.Rules.{rules}
 use Rattle.script.proofs.words.passes.Goals as goal
 
 pub returns-in-Blanks : goal.returns-in-Blanks

@@ -1,6 +1,5 @@
 -- `script::words::rest` meets its contract. Assumes nothing.
 use Rattle.script.proofs.WordLaws.{word-inside, rest-is}
-use borrow.Author.Rules.{rules}
 use Rattle.script.proofs.words.rest.Goals as goal
 
 pub slice_bounds-result-count : goal.slice_bounds-result-count

@@ -1,10 +1,5 @@
 -- `script::words::run_end` meets its contract. Assumes nothing.
-use borrow.Author.Rules.{rules}
-use mathlib.Core.Path.{◌≡◌, refl}
-use Prim.Native.Nat.{◌-◌}
-use lib.ListN.{length}
-use Rattle.token.specs.Bytes.{run_at}
-use Rattle.script.specs.Words.{test_of}
+use mathlib.Core.Path.{refl}
 use Rattle.token.proofs.RunSteps.{run_on, run-stopped, run-over}
 use Rattle.script.proofs.words.run_end.Goals as goal
 

@@ -1,6 +1,5 @@
 -- `script::words::word` meets its contract. Assumes nothing.
 use Rattle.script.proofs.WordLaws.{word-whole, word-inside, word-is}
-use borrow.Author.Rules.{rules}
 use Rattle.script.proofs.words.word.Goals as goal
 
 pub slice_bounds-result-count : goal.slice_bounds-result-count
