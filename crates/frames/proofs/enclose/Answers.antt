@@ -2,7 +2,6 @@
 use native.Mathlib.Omega.{arith}
 use mathlib.Core.Path.{sym, ◌∙◌}
 use Rattle.frames.proofs.FrameLaws.{enclosed-short, enclosed-whole, enclosed-runs-on}
-use borrow.Author.Rules.{rules}
 use Rattle.frames.proofs.enclose.Goals as goal
 
 pub returns-then-input-start : goal.returns-then-input-start

@@ -1,7 +1,6 @@
 -- `frames::ends_at` meets its contract. Assumes nothing.
 use borrow.Author.Tests.{lt-ltb, le-ltb}
 use Rattle.frames.specs.Frames.{ends_at}
-use borrow.Author.Rules.{rules}
 use Rattle.frames.proofs.ends_at.Goals as goal
 
 pub returns-then-at-input : goal.returns-then-at-input

@@ -1,6 +1,5 @@
 -- `frames::frame_at` meets its contract. Assumes nothing.
 use Rattle.frames.specs.Frames.{frame_at}
-use borrow.Author.Rules.{rules}
 use Rattle.frames.proofs.frame_at.Goals as goal
 
 pub returns : goal.returns

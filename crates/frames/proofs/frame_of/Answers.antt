@@ -1,6 +1,5 @@
 -- `frames::frame_of` meets its contract. Assumes nothing.
 use Rattle.frames.specs.Frames.{framed}
-use borrow.Author.Rules.{rules}
 use Rattle.frames.proofs.frame_of.Goals as goal
 
 pub returns-in-Is : goal.returns-in-Is

@@ -6,7 +6,6 @@ use mathlib.Core.Path.{◌∙◌}
 use borrow.Author.Tests.{le-leb, lt-leb}
 use Rattle.script.proofs.WordLaws.{line_on, line-inside}
 use Rattle.frames.specs.Frames.{headed_at}
-use borrow.Author.Rules.{rules}
 use Rattle.frames.proofs.headed_at.Goals as goal
 
 pub returns-then-input-at : goal.returns-then-input-at

@@ -1,6 +1,5 @@
 -- `frames::length_of` meets its contract. Assumes nothing.
 use Rattle.frames.proofs.FrameLaws.{headed-so, headed-not}
-use borrow.Author.Rules.{rules}
 use Rattle.frames.proofs.length_of.Goals as goal
 
 pub returns-then-is-third : goal.returns-then-is-third
