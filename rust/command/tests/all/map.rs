@@ -138,8 +138,7 @@ fn a_page_that_is_not_drawn_is_trouble() {
     };
     let made = shell(&format!(
         "mkdir -p {0}/rust/picture {0}/rust/target/release && cp {1} {0}/rust/target/release/command &&
-         cp -a desfanuk run {0} && mkdir {0}/crates && ln -s $PWD/crates/explain {0}/crates/explain &&
-         ln -s $PWD/crates/replay {0}/crates/replay",
+         cp -a desfanuk run {0} && cp --parents crates/explain/out/explain crates/replay/out/replay {0}",
         folder.display(),
         env!("CARGO_BIN_EXE_command")
     ));

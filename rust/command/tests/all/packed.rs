@@ -3,14 +3,7 @@
 use std::fs;
 use std::path::{Path, PathBuf};
 
-use crate::started::{is_picture_here, shell, Ended};
-
-fn scratch() -> PathBuf {
-    let folder = Path::new(env!("CARGO_TARGET_TMPDIR")).join("packed");
-    let _ = fs::remove_dir_all(&folder);
-    fs::create_dir_all(&folder).expect("made");
-    folder
-}
+use crate::started::{apart, is_picture_here, shell, Ended};
 
 /// A repository of its own: this tree, committed, with what is built here. The archive for C may be any file, and where
 /// the picture cannot be built another program stands for it.
@@ -118,7 +111,8 @@ fn starts_from_it(packed: &Packed) {
 
 #[test]
 fn what_is_packed_is_ready_to_run() {
-    let folder = scratch();
+    let folder = apart("packed");
+    fs::create_dir(&folder).expect("made");
     let packed = packed(&folder);
     is_ready_alone(&packed, &folder.join("alone"));
     starts_from_it(&packed);

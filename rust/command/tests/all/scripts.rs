@@ -1,10 +1,10 @@
 //! The scripts at the root: `desfanuk`, `run` and `first`.
 
+use std::fs;
 use std::os::unix::fs::symlink;
-use std::path::Path;
 use std::time::{Duration, Instant};
 
-use crate::started::{is_picture_here, root, run, shell};
+use crate::started::{apart, is_picture_here, root, run, shell};
 
 /// Every example of the help is run, and ends as it says.
 #[test]
@@ -41,8 +41,7 @@ fn the_examples_of_the_help_run() {
 
 #[test]
 fn the_command_runs_from_elsewhere_by_a_link() {
-    let link = Path::new(env!("CARGO_TARGET_TMPDIR")).join("linked");
-    let _ = std::fs::remove_file(&link);
+    let link = apart("linked");
     symlink(root().join("desfanuk"), &link).expect("linked");
     let board = root().join("boards/lamp.devil");
     let ended = shell(&format!(
@@ -50,6 +49,7 @@ fn the_command_runs_from_elsewhere_by_a_link() {
         link.display(),
         board.display()
     ));
+    fs::remove_file(link).expect("removed");
     assert_eq!(ended.code, 0, "{ended:?}");
 }
 

@@ -1,10 +1,9 @@
 //! The command, started.
 
-use std::fs;
 use std::io::Write;
 use std::path::{Path, PathBuf};
-use std::process::{Command, Output, Stdio};
-use std::thread;
+use std::process::{self, Command, Output, Stdio};
+use std::{env, fs, thread};
 
 pub fn root() -> PathBuf {
     let root = Path::new(env!("CARGO_MANIFEST_DIR")).join("../..");
@@ -73,6 +72,14 @@ pub fn scratch(name: &str, bytes: &[u8]) -> String {
     let path = Path::new(env!("CARGO_TARGET_TMPDIR")).join(name);
     fs::write(&path, bytes).expect("written");
     path.into_os_string().into_string().expect("a plain path")
+}
+
+/// A place of a test's own outside the repository, for what `rt ci` refuses below it: links, and another tree. Nothing is
+/// there yet.
+pub fn apart(name: &str) -> PathBuf {
+    let path = env::temp_dir().join(format!("desfanuk-{name}-{}", process::id()));
+    let _ = fs::remove_dir_all(&path);
+    path
 }
 
 /// A line of bash in the repository's folder.
