@@ -3,9 +3,8 @@
 use Prim.Native.Nat.{ℕ, ◌+◌, ◌*◌, ◌≤◌, ◌<◌}
 use native.Mathlib.Omega.{arith}
 use mathlib.Core.Path.{◌≡◌, ap, ◌∙◌}
-use mathlib.Core.Bool.{Bool, true, ◌&&◌, ◌||◌}
+use mathlib.Core.Bool.{true, ◌&&◌, ◌||◌}
 use mathlib.Core.List.{List}
-use lib.Dec.{eqb}
 use lib.ListN.{length}
 use borrow.Author.Tests.{eq-eqb}
 use Rattle.syntax.specs.declared.register.Register.{Register}

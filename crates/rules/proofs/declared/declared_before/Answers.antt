@@ -3,7 +3,6 @@ use mathlib.Core.Path.{◌∙◌}
 use Rattle.rules.specs.Fault.{fault_if}
 use Rattle.rules.specs.Names.{is_declared, declared_before}
 use Rattle.rules.specs.State.{state_of}
-use borrow.Author.Rules.{rules}
 use Rattle.rules.proofs.declared.declared_before.Goals as goal
 
 pub returns-then-fresh : goal.returns-then-fresh

@@ -1,6 +1,5 @@
 -- `rules::fault::fault_if` meets its contract.
 use Rattle.rules.specs.Fault.{only, fault_if}
-use borrow.Author.Rules.{rules}
 use Rattle.rules.proofs.fault.fault_if.Goals as goal
 
 pub returns : goal.returns

@@ -1,6 +1,5 @@
 -- `rules::fault::only` meets its contract.
 use Rattle.rules.specs.Fault.{only}
-use borrow.Author.Rules.{rules}
 use Rattle.rules.proofs.fault.only.Goals as goal
 
 pub returns-then-test : goal.returns-then-test

@@ -1,11 +1,9 @@
 -- `rules::lists::all_have` meets its contract.
-use Prim.Native.Nat.{ℕ, ◌≤◌, ◌-◌, ◌*◌}
+use Prim.Native.Nat.{ℕ, ◌*◌}
 use native.Mathlib.Omega.{arith}
 use borrow.Author.Rules.{rules}
-use mathlib.Core.Path.{◌≡◌, sym, ap, ◌∙◌}
-use lib.ListN.{get_or}
+use mathlib.Core.Path.{sym, ap, ◌∙◌}
 use lib.Dec.{eqb}
-use Rattle.tables.specs.Every.{every}
 use Rattle.tables.specs.Words.{present, register_part}
 use Rattle.tables.proofs.Laws.{every-none, gathers, gathered}
 use Rattle.rules.specs.Lists.{all_have}

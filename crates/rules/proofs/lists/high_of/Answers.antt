@@ -1,7 +1,6 @@
 -- `rules::lists::high_of` meets its contract.
 use mathlib.Core.Path.{◌∙◌}
 use Rattle.rules.specs.Lists.{high_in}
-use borrow.Author.Rules.{rules}
 use Rattle.rules.proofs.lists.high_of.Goals as goal
 
 pub returns : goal.returns

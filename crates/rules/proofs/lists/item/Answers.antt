@@ -1,7 +1,6 @@
 -- `rules::lists::item` meets its contract.
 use mathlib.Core.Path.{sym}
 use lib.ListN.{get_or-eq_default}
-use borrow.Author.Rules.{rules}
 use Rattle.rules.proofs.lists.item.Goals as goal
 
 pub returns-else-at-list : goal.returns-else-at-list

@@ -1,6 +1,5 @@
 -- `rules::lists::list_for` meets its contract.
 use Rattle.rules.specs.Lists.{list_for}
-use borrow.Author.Rules.{rules}
 use Rattle.rules.proofs.lists.list_for.Goals as goal
 
 pub returns : goal.returns

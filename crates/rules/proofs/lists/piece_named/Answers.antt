@@ -1,6 +1,5 @@
 -- `rules::lists::piece_named` meets its contract.
 use Rattle.rules.specs.Lists.{piece_named}
-use borrow.Author.Rules.{rules}
 use Rattle.rules.proofs.lists.piece_named.Goals as goal
 
 pub returns : goal.returns

@@ -1,11 +1,8 @@
 -- `rules::lists::resolve` meets its contract.
-use Prim.Native.Nat.{◌≤◌, ◌-◌}
 use native.Mathlib.Omega.{arith}
 use mathlib.Core.Path.{◌≡◌, refl, ◌∙◌, ap}
-use lib.ListN.{length}
 use Rattle.rules.specs.Lists.{unknown_in, pieces_on}
 use Rattle.rules.proofs.ListLaws.{unknown-none, unknown-more, pieces_none, pieces_more}
-use borrow.Author.Rules.{rules}
 use Rattle.rules.proofs.lists.resolve.Goals as goal
 
 pub loop-k-init : goal.loop-k-init
@@ -26,6 +23,6 @@ pub returns : goal.returns
 returns c =
     let e : c.loop-k.k ≡ c.args.count = omega arith in
     record {
-    known = c.loop-k.invariant.2 ∙ ap (unknown_in _ _ _) e;
-    stored = c.loop-k.invariant.3 ∙ ap (pieces_on _ _ _ _) e
+      known = c.loop-k.invariant.2 ∙ ap (unknown_in _ _ _) e;
+      stored = c.loop-k.invariant.3 ∙ ap (pieces_on _ _ _ _) e;
     }

@@ -1,11 +1,8 @@
 -- `rules::lists::resolve` meets its contract.
 use Prim.Native.Nat.{◌≤◌, ◌-◌}
-use native.Mathlib.Omega.{arith}
-use mathlib.Core.Path.{◌≡◌, refl, ◌∙◌, ap}
+use mathlib.Core.Path.{◌≡◌}
 use lib.ListN.{length}
 use Rattle.rules.specs.Lists.{unknown_in, pieces_on}
-use Rattle.rules.proofs.ListLaws.{unknown-none, unknown-more, pieces_none, pieces_more}
-use borrow.Author.Rules.{rules}
 use Rattle.rules.proofs.lists.resolve.Given as goal
 
 abbrev pub invariant-loop-k : goal.invariant-loop-k

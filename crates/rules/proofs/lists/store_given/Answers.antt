@@ -1,7 +1,6 @@
 -- `rules::lists::store_given` meets its contract.
 use borrow.Author.Tests.{eq-eqb, ne_eqb}
 use Rattle.rules.specs.Lists.{part_words}
-use borrow.Author.Rules.{rules}
 use Rattle.rules.proofs.lists.store_given.Goals as goal
 
 pub returns-then-from-eq1 : goal.returns-then-from-eq1

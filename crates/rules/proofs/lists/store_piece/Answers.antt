@@ -2,7 +2,6 @@
 use mathlib.Core.Path.{refl}
 use native.Mathlib.Omega.{arith}
 use Rattle.rules.proofs.ListLaws.{written_none, written_on}
-use borrow.Author.Rules.{rules}
 use Rattle.rules.proofs.lists.store_piece.Goals as goal
 
 pub returns : goal.returns

@@ -3,7 +3,6 @@ use native.Mathlib.Omega.{arith}
 use lib.Pow.{pow_pos}
 use Rattle.rules.specs.Mask.{all_dots}
 use Rattle.rules.proofs.MaskLaws.{small_power}
-use borrow.Author.Rules.{rules}
 use Rattle.rules.proofs.mask.all_dots.Goals as goal
 
 pub power-limit-requires : goal.power-limit-requires

@@ -1,7 +1,6 @@
 -- `rules::mask::byte_at` meets its contract.
 use mathlib.Core.Path.{sym}
 use lib.ListN.{get_or-eq_default}
-use borrow.Author.Rules.{rules}
 use Rattle.rules.proofs.mask.byte_at.Goals as goal
 
 pub returns-else-at-mask : goal.returns-else-at-mask

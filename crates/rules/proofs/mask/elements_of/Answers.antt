@@ -5,8 +5,7 @@ use mathlib.Core.Path.{◌∙◌, ap}
 use lib.ListN.{get_or}
 use Rattle.bits.specs.Bits.{number_of}
 use Rattle.rules.specs.Mask.{is_element, elements}
-use Rattle.rules.proofs.MaskLaws.{Gathered, gathered_none, gathered-more, gathered-small, gathered-all}
-use borrow.Author.Rules.{rules}
+use Rattle.rules.proofs.MaskLaws.{gathered_none, gathered-more, gathered-small, gathered-all}
 use Rattle.rules.proofs.mask.elements_of.Goals as goal
 
 pub loop-b-init : goal.loop-b-init

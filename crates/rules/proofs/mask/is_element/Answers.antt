@@ -1,6 +1,5 @@
 -- `rules::mask::is_element` meets its contract.
 use Rattle.rules.specs.Mask.{is_element}
-use borrow.Author.Rules.{rules}
 use Rattle.rules.proofs.mask.is_element.Goals as goal
 
 pub returns-in-Dot : goal.returns-in-Dot

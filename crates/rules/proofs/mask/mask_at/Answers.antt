@@ -1,6 +1,5 @@
 -- `rules::mask::mask_at` meets its contract.
 use Rattle.rules.specs.Mask.{mask_at}
-use borrow.Author.Rules.{rules}
 use Rattle.rules.proofs.mask.mask_at.Goals as goal
 
 pub returns-then-given : goal.returns-then-given

@@ -1,6 +1,5 @@
 -- `rules::mask::mask_of` meets its contract.
 use Rattle.rules.specs.Mask.{mask_of}
-use borrow.Author.Rules.{rules}
 use Rattle.rules.proofs.mask.mask_of.Goals as goal
 
 pub returns : goal.returns

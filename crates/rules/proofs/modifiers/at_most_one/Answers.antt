@@ -1,6 +1,5 @@
 -- `rules::modifiers::at_most_one` meets its contract.
 use Rattle.rules.specs.Modifiers.{at_most_one}
-use borrow.Author.Rules.{rules}
 use Rattle.rules.proofs.modifiers.at_most_one.Goals as goal
 
 pub returns-then-present : goal.returns-then-present

@@ -1,9 +1,6 @@
 -- `rules::names::begins_with` meets its contract.
-use Prim.Native.Nat.{◌≤◌, ◌-◌}
 use borrow.Author.Rules.{rules}
-use mathlib.Core.Path.{◌≡◌, refl, sym, ◌∙◌}
-use lib.ListN.{length, drop}
-use Rattle.token.specs.Bytes.{begins}
+use mathlib.Core.Path.{refl, sym, ◌∙◌}
 use Rattle.rules.proofs.NameLaws.{begins-end, begins-short, begins-on, begins-differs}
 use Rattle.rules.proofs.names.begins_with.Goals as goal
 

@@ -1,10 +1,8 @@
 -- `rules::names::begins_with` meets its contract.
 use Prim.Native.Nat.{◌≤◌, ◌-◌}
-use borrow.Author.Rules.{rules}
-use mathlib.Core.Path.{◌≡◌, refl, sym, ◌∙◌}
+use mathlib.Core.Path.{◌≡◌}
 use lib.ListN.{length, drop}
 use Rattle.token.specs.Bytes.{begins}
-use Rattle.rules.proofs.NameLaws.{begins-end, begins-short, begins-on, begins-differs}
 use Rattle.rules.proofs.names.begins_with.Given as goal
 
 abbrev pub invariant-loop-k : goal.invariant-loop-k

@@ -5,7 +5,6 @@ use borrow.Author.Tests.{eqb-false}
 use mathlib.Core.Path.{◌∙◌, ap}
 use Prim.Native.Nat.{ℕ, ◌+◌, ◌-◌}
 use lib.ListN.{get_or, length}
-use borrow.Author.Rules.{rules}
 use Rattle.rules.proofs.names.ends_alike.Goals as goal
 
 pub returns-then-word-length : goal.returns-then-word-length

@@ -1,12 +1,8 @@
 -- `rules::names::find` meets its contract.
 use Prim.Native.Nat.{◌≤◌, ◌*◌, ◌+◌, ◌-◌}
-use native.Mathlib.Omega.{arith}
-use borrow.Author.Rules.{rules}
-use mathlib.Core.Path.{◌≡◌, sym, ◌∙◌}
+use mathlib.Core.Path.{◌≡◌}
 use Rattle.tables.specs.Every.{first_of}
-use Rattle.tables.proofs.Laws.{first-none, first_more}
 use Rattle.rules.specs.Names.{is_named}
-use Rattle.rules.proofs.NameLaws.{found_here, found_none, strides}
 use Rattle.rules.proofs.names.find.Given as goal
 
 abbrev pub invariant-loop-i : goal.invariant-loop-i

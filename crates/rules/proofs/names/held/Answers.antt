@@ -1,6 +1,5 @@
 -- `rules::names::held` meets its contract.
 use Rattle.rules.proofs.NameLaws.{held_none, held-some}
-use borrow.Author.Rules.{rules}
 use Rattle.rules.proofs.names.held.Goals as goal
 
 pub returns-then-table-eq0 : goal.returns-then-table-eq0

@@ -1,6 +1,5 @@
 -- `rules::names::index_of` meets its contract.
 use Rattle.rules.specs.Names.{index_of}
-use borrow.Author.Rules.{rules}
 use Rattle.rules.proofs.names.index_of.Goals as goal
 
 pub returns-in-At : goal.returns-in-At

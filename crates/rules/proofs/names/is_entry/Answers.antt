@@ -1,6 +1,5 @@
 -- `rules::names::is_entry` meets its contract: an entry that does not end alike is not recorded under the name.
 use mathlib.Core.Path.{sym}
-use borrow.Author.Rules.{rules}
 use Rattle.rules.proofs.names.is_entry.Goals as goal
 
 pub returns-then-ends_alike : goal.returns-then-ends_alike

@@ -1,6 +1,5 @@
 -- `rules::names::is_named` meets its contract.
 use Rattle.rules.specs.Names.{is_named}
-use borrow.Author.Rules.{rules}
 use Rattle.rules.proofs.names.is_named.Goals as goal
 
 pub returns : goal.returns

@@ -1,6 +1,5 @@
 -- `rules::names::is_nothing` meets its contract.
 use Rattle.rules.specs.Names.{is_nothing}
-use borrow.Author.Rules.{rules}
 use Rattle.rules.proofs.names.is_nothing.Goals as goal
 
 pub returns-in-At : goal.returns-in-At

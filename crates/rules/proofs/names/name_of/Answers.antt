@@ -1,6 +1,5 @@
 -- `rules::names::name_of` meets its contract.
 use Rattle.rules.proofs.NameLaws.{part_of}
-use borrow.Author.Rules.{rules}
 use Rattle.rules.proofs.names.name_of.Goals as goal
 
 pub returns : goal.returns

@@ -1,6 +1,5 @@
 -- `rules::names::stands_at` meets its contract.
 use Rattle.rules.proofs.NameLaws.{stands-taken, stands-left}
-use borrow.Author.Rules.{rules}
 use Rattle.rules.proofs.names.stands_at.Goals as goal
 
 pub returns-then-name-extent : goal.returns-then-name-extent

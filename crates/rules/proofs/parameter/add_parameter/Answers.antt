@@ -3,7 +3,6 @@ use mathlib.Core.List.{[], ◌∷◌}
 use mathlib.Core.Path.{◌∙◌}
 use Rattle.rules.specs.Parameter.{parameter_entry}
 use Rattle.rules.proofs.WordLaws.{appended-two}
-use borrow.Author.Rules.{rules}
 use Rattle.rules.proofs.parameter.add_parameter.Goals as goal
 
 pub returns : goal.returns

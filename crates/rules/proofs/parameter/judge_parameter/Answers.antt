@@ -2,7 +2,6 @@
 use mathlib.Core.Bool.{false≢true}
 use Rattle.rules.specs.Parameter.{judge_parameter}
 use Rattle.rules.proofs.JudgingLaws.{judged-stopped, judged-broken, judged-on, parameter-entered}
-use borrow.Author.Rules.{rules}
 use Rattle.rules.proofs.parameter.judge_parameter.Goals as goal
 
 pub returns-then-is_fault : goal.returns-then-is_fault

@@ -6,7 +6,6 @@ use Rattle.rules.specs.Register.{part_words, register_entry}
 use Rattle.rules.proofs.OffsetLaws.{part_length}
 use mathlib.Core.List.{[], ◌∷◌}
 use Rattle.rules.proofs.WordLaws.{appended-three}
-use borrow.Author.Rules.{rules}
 use Rattle.rules.proofs.register.add_register.Goals as goal
 
 pub returns : goal.returns

@@ -3,12 +3,11 @@ use native.Mathlib.Omega.{arith}
 use mathlib.Core.Path.{◌∙◌}
 use Rattle.rules.specs.Register.{bad_offset, port_found}
 use Rattle.rules.proofs.NameLaws.{index-small}
-use borrow.Author.Rules.{rules}
 use Rattle.rules.proofs.register.bad_offset.Goals as goal
 
 pub offset_in-requires : goal.offset_in-requires
 unfolding port_found
-offset_in-requires c = rw (c.index_of-index.ensures, c.port_found.ensures) (index-small _ _ _ _ (omega (arith, c.shared_slice_known-2-1.given 0)))
+offset_in-requires c = rw (c.index_of-index.ensures, c.port_found.ensures) (index-small _ _ _ _ (omega (arith, c.type_inv.parameters 0)))
 
 pub returns : goal.returns
 unfolding bad_offset

@@ -1,7 +1,6 @@
 -- `rules::register::judge_register` meets its contract.
 use Rattle.rules.specs.Register.{judge_register}
 use Rattle.rules.proofs.JudgingLaws.{judged-stopped, judged-broken, judged-on, register-entered}
-use borrow.Author.Rules.{rules}
 use Rattle.rules.proofs.register.judge_register.Goals as goal
 
 pub returns-then-is_fault : goal.returns-then-is_fault

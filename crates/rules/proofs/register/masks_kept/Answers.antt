@@ -1,6 +1,5 @@
 -- `rules::register::masks_kept` meets its contract.
 use Rattle.rules.specs.Register.{masks_kept}
-use borrow.Author.Rules.{rules}
 use Rattle.rules.proofs.register.masks_kept.Goals as goal
 
 pub returns : goal.returns

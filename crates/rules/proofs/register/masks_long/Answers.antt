@@ -1,6 +1,5 @@
 -- `rules::register::masks_long` meets its contract.
 use Rattle.rules.specs.Register.{masks_long}
-use borrow.Author.Rules.{rules}
 use Rattle.rules.proofs.register.masks_long.Goals as goal
 
 pub returns : goal.returns

@@ -1,6 +1,5 @@
 -- `rules::register::part_entry` meets its contract.
 use Rattle.rules.specs.Register.{part_entry}
-use borrow.Author.Rules.{rules}
 use Rattle.rules.proofs.register.part_entry.Goals as goal
 
 pub returns-then-present : goal.returns-then-present

@@ -1,7 +1,6 @@
 -- `rules::register::part_mask` meets its contract.
 use mathlib.Core.Path.{◌∙◌}
 use Rattle.rules.specs.Register.{part_mask}
-use borrow.Author.Rules.{rules}
 use Rattle.rules.proofs.register.part_mask.Goals as goal
 
 pub returns : goal.returns

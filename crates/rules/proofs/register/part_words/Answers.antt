@@ -1,7 +1,6 @@
 -- `rules::register::part_words` meets its contract.
 use mathlib.Core.Path.{◌∙◌}
 use Rattle.rules.specs.Register.{part_words}
-use borrow.Author.Rules.{rules}
 use Rattle.rules.proofs.register.part_words.Goals as goal
 
 pub returns : goal.returns

@@ -1,7 +1,6 @@
 -- `rules::register::port_found` meets its contract.
 use mathlib.Core.Path.{◌∙◌}
 use Rattle.rules.specs.Register.{port_found}
-use borrow.Author.Rules.{rules}
 use Rattle.rules.proofs.register.port_found.Goals as goal
 
 pub returns : goal.returns

@@ -2,7 +2,6 @@
 use mathlib.Core.Path.{◌∙◌}
 use Rattle.rules.specs.Register.{register_written}
 use Rattle.rules.specs.State.{state_of}
-use borrow.Author.Rules.{rules}
 use Rattle.rules.proofs.register.register_written.Goals as goal
 
 pub returns : goal.returns

@@ -1,7 +1,6 @@
 -- `rules::register::unknown_port` meets its contract.
 use mathlib.Core.Path.{◌∙◌}
 use Rattle.rules.specs.Register.{unknown_port}
-use borrow.Author.Rules.{rules}
 use Rattle.rules.proofs.register.unknown_port.Goals as goal
 
 pub returns : goal.returns

@@ -1,6 +1,5 @@
 -- `rules::variable::bad_behaviours` meets its contract.
 use Rattle.rules.specs.Variable.{bad_behaviours}
-use borrow.Author.Rules.{rules}
 use Rattle.rules.proofs.variable.bad_behaviours.Goals as goal
 
 pub returns : goal.returns

@@ -1,15 +1,14 @@
 -- `rules::variable::early_of` meets its contract.
 use mathlib.Core.Path.{refl}
 use Rattle.rules.proofs.VariableLaws.{early-is}
-use borrow.Author.Rules.{rules}
 use Rattle.rules.proofs.variable.early_of.Goals as goal
 
 pub name_fault-names-requires : goal.name_fault-names-requires
 name_fault-names-requires c = let p = c.requires in record {
-    asked = p;
-    firsts_value = refl;
-    seconds_value = refl
-    }
+  asked = p;
+  firsts_value = refl;
+  seconds_value = refl;
+}
 
 pub returns : goal.returns
 returns c =

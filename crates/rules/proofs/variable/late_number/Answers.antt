@@ -1,5 +1,4 @@
 -- `rules::variable::late_number` meets its contract.
-use borrow.Author.Rules.{rules}
 use Rattle.rules.proofs.variable.late_number.Goals as goal
 
 pub returns : goal.returns

@@ -1,7 +1,6 @@
 -- `rules::variable::lowest` meets its contract.
 use Rattle.rules.specs.Variable.{lowest}
 use Rattle.rules.proofs.VariableLaws.{least-of}
-use borrow.Author.Rules.{rules}
 use Rattle.rules.proofs.variable.lowest.Goals as goal
 
 pub returns : goal.returns

@@ -3,7 +3,6 @@ use mathlib.Core.Path.{refl}
 use native.Mathlib.Omega.{arith}
 use Rattle.rules.specs.Variable.{head_words, flag_of}
 use Rattle.rules.proofs.ListLaws.{written_on, written_none}
-use borrow.Author.Rules.{rules}
 use Rattle.rules.proofs.variable.store_head.Goals as goal
 
 pub returns : goal.returns

@@ -1,6 +1,5 @@
 -- `rules::variable::store_variable` meets its contract.
 use Rattle.rules.proofs.VariableLaws.{entered}
-use borrow.Author.Rules.{rules}
 use Rattle.rules.proofs.variable.store_variable.Goals as goal
 
 pub returns : goal.returns

@@ -1,6 +1,5 @@
 -- `rules::variable::trigger_flag` meets its contract.
 use Rattle.rules.specs.Variable.{triggers, flag_of}
-use borrow.Author.Rules.{rules}
 use Rattle.rules.proofs.variable.trigger_flag.Goals as goal
 
 pub returns : goal.returns

@@ -1,10 +1,7 @@
 -- `rules::words::clear` meets its contract: zeros so far, and the rest as it was.
-use Prim.Native.Nat.{◌≤◌, ◌-◌}
 use native.Mathlib.Omega.{arith}
-use borrow.Author.Rules.{rules}
-use mathlib.Core.Path.{◌≡◌, refl}
-use mathlib.Core.List.{◌++◌}
-use lib.ListN.{length, length-set, drop, replicate}
+use mathlib.Core.Path.{refl}
+use lib.ListN.{length-set}
 use Rattle.rules.proofs.WordLaws.{clear-turn, clear-end}
 use Rattle.rules.proofs.words.clear.Goals as goal
 

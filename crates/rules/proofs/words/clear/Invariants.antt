@@ -1,11 +1,8 @@
 -- `rules::words::clear` meets its contract: zeros so far, and the rest as it was.
 use Prim.Native.Nat.{◌≤◌, ◌-◌}
-use native.Mathlib.Omega.{arith}
-use borrow.Author.Rules.{rules}
-use mathlib.Core.Path.{◌≡◌, refl}
+use mathlib.Core.Path.{◌≡◌}
 use mathlib.Core.List.{◌++◌}
-use lib.ListN.{length, length-set, drop, replicate}
-use Rattle.rules.proofs.WordLaws.{clear-turn, clear-end}
+use lib.ListN.{length, drop, replicate}
 use Rattle.rules.proofs.words.clear.Given as goal
 
 abbrev pub invariant-loop-k : goal.invariant-loop-k

@@ -1,6 +1,5 @@
 -- `rules::words::count_one` meets its contract.
 use mathlib.Core.Path.{◌∙◌}
-use borrow.Author.Rules.{rules}
 use Rattle.rules.proofs.words.count_one.Goals as goal
 
 pub returns : goal.returns

@@ -3,7 +3,6 @@ use native.Mathlib.Nat.{min-eq_left, min-eq_right}
 use Rattle.rules.specs.Words.{word_of}
 use mathlib.Core.Path.{sym}
 use native.Mathlib.Omega.{arith}
-use borrow.Author.Rules.{rules}
 use Rattle.rules.proofs.words.narrow.Goals as goal
 
 pub returns-then-number-le4294967295 : goal.returns-then-number-le4294967295

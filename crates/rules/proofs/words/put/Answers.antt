@@ -1,7 +1,6 @@
 -- `rules::words::put` meets its contract.
 use mathlib.Core.Path.{sym}
 use lib.Seq.{set_out}
-use borrow.Author.Rules.{rules}
 use Rattle.rules.proofs.words.put.Goals as goal
 
 pub returns-else-at-table : goal.returns-else-at-table

@@ -1,10 +1,6 @@
 -- `rules::words::store` meets its contract.
-use Prim.Native.Nat.{◌≤◌, ◌+◌, ◌-◌}
 use native.Mathlib.Omega.{arith}
-use borrow.Author.Rules.{rules}
-use mathlib.Core.Path.{◌≡◌, refl, sym, ◌∙◌}
-use lib.ListN.{length, drop}
-use Rattle.rules.specs.Words.{written}
+use mathlib.Core.Path.{refl, sym, ◌∙◌}
 use Rattle.rules.proofs.WordLaws.{written-turn, written-end, written_start}
 use Rattle.rules.proofs.words.store.Goals as goal
 

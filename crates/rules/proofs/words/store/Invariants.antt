@@ -1,11 +1,8 @@
 -- `rules::words::store` meets its contract.
 use Prim.Native.Nat.{◌≤◌, ◌+◌, ◌-◌}
-use native.Mathlib.Omega.{arith}
-use borrow.Author.Rules.{rules}
-use mathlib.Core.Path.{◌≡◌, refl, sym, ◌∙◌}
+use mathlib.Core.Path.{◌≡◌}
 use lib.ListN.{length, drop}
 use Rattle.rules.specs.Words.{written}
-use Rattle.rules.proofs.WordLaws.{written-turn, written-end, written_start}
 use Rattle.rules.proofs.words.store.Given as goal
 
 abbrev pub invariant-loop-k : goal.invariant-loop-k
