@@ -23,7 +23,7 @@ pub gives≢half : {z : ℤ} → Gives z ≡ HalfWritten → ⊥
 gives≢half e = subst IsHalf (sym e) tt
 
 module _ (t : Tables) (power : Cells) where
-  -- what must be read is half_written_lem only where the last write was abandoned
+  -- what must be read is half-written only where the last write was abandoned
   pub half_is : (es : List Event) (v : ℕ) → must_read t power es v ≡ HalfWritten → is_half es v ≡ true
   unfolding must_read is_half
   half_is [] v e = absurd (gives≢half e)

@@ -1,6 +1,6 @@
 -- Stations that stop midway: what specs/Stops.antt says holds from every opening on.
 -- (What is not claimed: that every bit outside an abandoned variable's own stays. A neighbour's write puts the record's
--- bits back over those of another half_written_lem variable.)
+-- bits back over those of another half-written variable.)
 -- Assumes nothing.
 use Prim.Native.Nat.{ℕ, ◌<◌}
 use mathlib.Core.Path.{◌≡◌, refl, sym, ap, ◌∙◌, subst}

@@ -59,7 +59,7 @@ pub record PowerLost (t : Tables) (power : List ℕ) (o : Opening t power) : Typ
       → Agree t (left_by t performed (world_after o calls)) numbers → Plain t v → Settled (world_after o calls) v → due_after again [] v ≡ due_after o calls v
   -- a plain variable in the middle of its write, settled before it, reads as the new bits in the registers set and the
   -- old ones elsewhere. It is not refused: the mark is lost with the power, and what it reads may be neither value
-  -- (proofs/Witness.antt has such a case; Remarks.antt says what helps). Of one that was half_written_lem before, no more
+  -- (proofs/Witness.antt has such a case; Remarks.antt says what helps). Of one that was half-written before, no more
   -- is known than what `half-set` says of the cells
   pub mixed-known : (calls : List Call) (v : ℕ) (z : ℤ) (u : UnderWay o calls v z) (performed : Bool) {numbers : List ℕ} (again : Opening t numbers)
       → Agree t (left_by t performed (world_after o calls)) numbers → Plain t v → Settled (world_after o u.before) v

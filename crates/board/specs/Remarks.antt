@@ -47,7 +47,7 @@ pub record Remarked (t : Tables) (power : List ℕ) (o : Opening t power) : Type
   -- the list as it is kept has every plain variable that it must have; 0 fits every kind
   pub kept-list : (calls : List Call) → Covers t (world_after o calls) (unfinished (world_after o calls))
   pub zero-fits : AllFit t (λ v. pos 0)
-  -- with any such list, which may have more: every plain variable is refused as half_written_lem or reads exactly as before
+  -- with any such list, which may have more: every plain variable is refused as half-written or reads exactly as before
   -- the loss (Lost.antt, `AsItIs`, says how such a due is answered on the board as it is)
   pub never-mixed : (calls : List Call) (performed : Bool) {numbers : List ℕ} (again : Opening t numbers) (value : ℕ → ℤ) (list : List ℕ)
       → Agree t (left_by t performed (world_after o calls)) numbers → AllFit t value → Covers t (world_after o calls) list → (v : ℕ) → Plain t v

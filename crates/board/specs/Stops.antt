@@ -30,7 +30,7 @@ is_being_written Nothing v = false
 is_being_written (ToRead u) v = false
 is_being_written (ToWrite u z) v = eqb v u
 
--- settled: neither half_written_lem nor being written
+-- settled: neither half-written nor being written
 pub record Settled (w : World) (v : ℕ) : Type 0 where
   pub whole : is_half w.events v ≡ false
   pub at_rest : is_being_written w.asked v ≡ false

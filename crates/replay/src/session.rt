@@ -1,6 +1,6 @@
 // A station over one text, from call to call.
 //   kept    the record, of which no more than the tables need is used
-//   marks   for each variable 0, or 1 where an abandoned write left it half_written_lem
+//   marks   for each variable 0, or 1 where an abandoned write left it half-written
 ghost use Rattle.std.specs.Prelude.{◌≡◌, ◌≤◌, min, length, take};
 ghost use Rattle.script.specs.Words.{word_of, rest_of, words_of};
 ghost use Rattle.rules.specs.Names.{variable_named};

@@ -1,6 +1,5 @@
--- The number without its bits above a register's width (`cut_to`): what an opening keeps of the numbers that it is lent,
--- and the bits that stay.
--- Assumes nothing.
+-- The number without its bits above a register's width (`cut_to`): what an opening keeps of the numbers that it is
+-- lent, and the bits that stay. Assumes nothing.
 use Prim.Native.Nat.{ℕ, zero, suc, ◌+◌, ◌^◌, ◌<◌}
 use native.Mathlib.Omega.{arith}
 use native.Mathlib.Nat.{mod-eq_of_lt, not-suc-le-zero}

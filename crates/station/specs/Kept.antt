@@ -37,7 +37,7 @@ pub record Keeps (sound : Tables → Bool) (t : Tables) (s : State) : Type 0 whe
       → (confirm sound t s byte).state.marks ≡ set s.marks v 0
   pub write-goes_on : (byte v step : ℕ) → InHand s v step → is_last t writing v (suc step) ≡ false → (confirm sound t s byte).state.marks ≡ s.marks
   pub read-confirmed : (byte : ℕ) → NoWrite s → SameLists s (confirm sound t s byte).state
-  -- "An abandoned write marks its variable half_written_lem, even at the first access"
+  -- "An abandoned write marks its variable half-written, even at the first access"
   pub write-abandoned : (v step : ℕ) → InHand s v step → NotRefused (abandon sound t s) → (abandon sound t s).state.marks ≡ set s.marks v 1
   pub no-byte-abandoned : (abandon sound t s).state.kept ≡ s.kept
   -- "An abandoned read changes nothing but ends the operation"

@@ -9,7 +9,7 @@ use crate::standing::fault;
 use crate::{Operation, Outcome};
 
 // Ends the operation in hand. The access on offer may have been performed or not, so a write leaves its variable
-// half_written_lem.
+// half-written.
 pub fn abandon(
     parameters: &[u32],
     registers: &[u32],

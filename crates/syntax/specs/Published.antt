@@ -22,7 +22,7 @@ integer_literal = tok (kind_of (Number 0 0))
 abbrev pub bits-literal : Grammar
 bits-literal = tok (kind_of (Bits 0 0))
 
--- binary_operator ::= + | - | * | / | %
+-- binary-operator ::= + | - | * | / | %
 abbrev pub binary_operator : Grammar
 binary_operator = lit "+" ∣ lit "-" ∣ lit "*" ∣ lit "/" ∣ lit "%"
 
@@ -31,24 +31,24 @@ binary_operator = lit "+" ∣ lit "-" ∣ lit "*" ∣ lit "/" ∣ lit "%"
 abbrev pub expr : Grammar
 expr = rule 0
 
--- expr ::= integer_literal | ( expr ) | - expr | expr binary_operator expr
+-- expr ::= integer-literal | ( expr ) | - expr | expr binary-operator expr
 unfoldable pub published : Rules
 published =
     record { body = integer_literal ∣ lit "(" ▸ expr ▸ lit ")" ∣ lit "-" ▸ expr ∣ expr ▸ binary_operator ▸ expr; more = [] } ∷ []
 
--- integer_range ::= integer_literal | integer_literal .. integer_literal
+-- integer-range ::= integer-literal | integer-literal .. integer-literal
 abbrev pub integer_range : Grammar
 integer_range = integer_literal ▸ opt (lit ".." ▸ integer_literal)
 
--- integer_ranges ::= integer_range (, integer_range)*
+-- integer-ranges ::= integer-range (, integer-range)*
 abbrev pub integer_ranges : Grammar
 integer_ranges = separated (lit ",") integer_range
 
--- the type of a parameter and of a register: bit [ integer_literal ]
+-- the type of a parameter and of a register: bit [ integer-literal ]
 abbrev pub bit-type : Grammar
 bit-type = lit "bit" ▸ lit "[" ▸ integer_literal ▸ lit "]"
 
--- device-param ::= ident : bit-type port (@ { integer_ranges })?
+-- device-param ::= ident : bit-type port (@ { integer-ranges })?
 abbrev pub device-param : Grammar
 device-param = ident ▸ lit ":" ▸ bit-type ▸ lit "port" ▸ opt (lit "@" ▸ lit "{" ▸ integer_ranges ▸ lit "}")
 
@@ -60,38 +60,38 @@ rw-mark = lit "read" ∣ lit "write"
 abbrev pub register-port : Grammar
 register-port = opt rw-mark ▸ ident ▸ opt (lit "@" ▸ expr)
 
--- register_attribute ::= (rw)? mask bits-literal
+-- register-attribute ::= (rw)? mask bits-literal
 abbrev pub register_attribute : Grammar
 register_attribute = opt rw-mark ▸ lit "mask" ▸ bits-literal
 
--- register_definition ::= register ident = register-port (, register-port)? (, register_attribute)* : bit-type
+-- register-definition ::= register ident = register-port (, register-port)? (, register-attribute)* : bit-type
 abbrev pub register_definition : Grammar
 register_definition =
     lit "register" ▸ ident ▸ lit "=" ▸ register-port ▸ (opt (lit "," ▸ register-port) ▸ many (lit "," ▸ register_attribute)) ▸ lit ":" ▸ bit-type
 
--- register-bits ::= piece (# piece)*, piece ::= ident ([ integer_ranges ])?
+-- register-bits ::= piece (# piece)*, piece ::= ident ([ integer-ranges ])?
 abbrev pub register-bits : Grammar
 register-bits = separated (lit "#") (ident ▸ opt (lit "[" ▸ integer_ranges ▸ lit "]"))
 
--- var_regs ::= (rw)? register-bits
+-- var-regs ::= (rw)? register-bits
 abbrev pub var_regs : Grammar
 var_regs = opt rw-mark ▸ register-bits
 
--- var_attribute ::= volatile | (rw)? trigger
+-- var-attribute ::= volatile | (rw)? trigger
 abbrev pub var_attribute : Grammar
 var_attribute = lit "volatile" ∣ opt rw-mark ▸ lit "trigger"
 
--- type-expr ::= (signed)? int (integer_literal) | bool
+-- type-expr ::= (signed)? int (integer-literal) | bool
 abbrev pub type-expr : Grammar
 type-expr = opt (lit "signed") ▸ lit "int" ▸ lit "(" ▸ integer_literal ▸ lit ")" ∣ lit "bool"
 
--- variable_definition ::= variable ident = var_regs (, var_regs)? (, var_attribute)* : type-expr
+-- variable-definition ::= variable ident = var-regs (, var-regs)? (, var-attribute)* : type-expr
 abbrev pub variable_definition : Grammar
 variable_definition =
     lit "variable" ▸ ident ▸ lit "=" ▸ var_regs ▸ (opt (lit "," ▸ var_regs) ▸ many (lit "," ▸ var_attribute)) ▸ lit ":" ▸ type-expr
 
--- device-spec ::= device ident (device-params) { (object-def;)+ }, object-def ::= register_definition |
--- variable_definition
+-- device-spec ::= device ident (device-params) { (object-def;)+ }, object-def ::= register-definition |
+-- variable-definition
 abbrev pub device-spec : Grammar
 device-spec =
     (lit "device" ▸ ident ▸ lit "(" ▸ separated (lit ",") device-param ▸ lit ")")

@@ -35,7 +35,7 @@ is_hexadecimal x = within (code "0") (code "9") x || within (code "A") (code "F"
 unfoldable pub is_octal : ℕ → Bool
 is_octal x = within (code "0") (code "7") x
 
--- 001: integer_literal ::= (0..9)+ | 0x (0..9 | A..F | a..f)+ | 0o (0..7)+
+-- 001: integer-literal ::= (0..9)+ | 0x (0..9 | A..F | a..f)+ | 0o (0..7)+
 unfoldable pub is_integer : List ℕ → Bool
 is_integer s =
     some is_decimal s || (begins (bytes "0x") s && some is_hexadecimal (drop 2 s)) || (begins (bytes "0o") s && some is_octal (drop 2 s))

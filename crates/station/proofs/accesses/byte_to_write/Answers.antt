@@ -16,9 +16,9 @@ use Rattle.station.proofs.accesses.byte_to_write.Goals as goal
 
 pub assemble-byte-requires : goal.assemble-byte-requires
 assemble-byte-requires c = record {
-    usable = usable_same c.part_of-part.ensures c.requires.usable;
-    width_le_widest = omega (arith, c.word-width.ensures.is, c.requires.byte.wide)
-    }
+  usable = usable_same c.part_of-part.ensures c.requires.usable;
+  width_le_widest = omega (arith, c.word-width.ensures.is, c.requires.byte.wide);
+}
 
 pub overflow_cast-result : goal.overflow_cast-result
 overflow_cast-result c =

@@ -10,9 +10,9 @@ use Rattle.station.proofs.accesses.gather_byte.Goals as goal
 
 pub assemble-requires : goal.assemble-requires
 assemble-requires c = record {
-    usable = usable_same c.part_of-part.ensures c.requires.usable;
-    width_le_widest = omega (arith, c.width_of-width.ensures, c.requires.v_bound_2)
-    }
+  usable = usable_same c.part_of-part.ensures c.requires.usable;
+  width_le_widest = omega (arith, c.width_of-width.ensures, c.requires.v_bound_2);
+}
 
 pub returns : goal.returns
 unfolding gather_byte

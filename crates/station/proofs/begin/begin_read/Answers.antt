@@ -21,8 +21,8 @@ pub offer_read-requires : goal.offer_read-requires
 offer_read-requires c =
     let begun = begins (tables_of c.args.parameters.now c.args.registers.now c.args.variables.now) _ _ _ _ 0 _ (omega arith) c.begin_fault-number.ensures c.if-number-ne0.false in
     record {
-    ready = begun.ready;
-    step_bound = begun.some
+      ready = begun.ready;
+      step_bound = begun.some;
     }
 
 pub returns : goal.returns

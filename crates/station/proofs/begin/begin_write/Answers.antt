@@ -27,14 +27,13 @@ pub offer_write-requires : goal.offer_write-requires
 offer_write-requires c =
     let begun = begins (tables_of c.args.parameters.now c.args.registers.now c.args.variables.now) _ _ _ _ 1 _ (omega arith) c.begin_fault-number.ensures c.if-number-ne0.false in
     record {
-    ready = begun.ready;
-    step_bound = begun.some
+      ready = begun.ready;
+      step_bound = begun.some;
     }
 
 pub returns-in-Pattern : goal.returns-in-Pattern
 unfolding started_write
 returns-in-Pattern c =
-    
     let t = tables_of c.args.parameters.now c.args.registers.now c.args.variables.now in
     let s = state_of c.args.held.now c.args.marks.now c.args.operation in
     let pattern = encoded-as c.encode-encoded.ensures c.kind_of-kind.ensures c.width_of-width.ensures (to_z-of_z c.ranges.value) ∙ c.in-Pattern.is in
@@ -43,7 +42,6 @@ returns-in-Pattern c =
 pub returns-in-Outside : goal.returns-in-Outside
 unfolding started_write
 returns-in-Outside c =
-    
     let t = tables_of c.args.parameters.now c.args.registers.now c.args.variables.now in
     let s = state_of c.args.held.now c.args.marks.now c.args.operation in
     let outside = encoded-as c.encode-encoded.ensures c.kind_of-kind.ensures c.width_of-width.ensures (to_z-of_z c.ranges.value) ∙ c.in-Outside.is in

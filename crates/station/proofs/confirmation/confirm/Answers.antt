@@ -19,8 +19,8 @@ confirm_read-requires c =
     let found = no_fault_lem (tables_of c.args.parameters.now c.args.registers.now c.args.variables.now) _ _ _ _ c.fault-number.ensures c.if-number-ne0.false in
     let on = reading _ _ _ _ found _ _ _ c.in-Reading.is in
     record {
-    ready = on.ready;
-    step_bound = on.step-due
+      ready = on.ready;
+      step_bound = on.step-due;
     }
 
 pub confirm_write-requires : goal.confirm_write-requires
@@ -28,11 +28,11 @@ confirm_write-requires c =
     let found = no_fault_lem (tables_of c.args.parameters.now c.args.registers.now c.args.variables.now) _ _ _ _ c.fault-number.ensures c.if-number-ne0.false in
     let on = writing _ _ _ _ found _ _ _ c.in-Writing.is in
     record {
-    ready = on.ready;
-    step_bound = on.step-due;
-    registers_in_bounds = found.held-long;
-    v_in_bounds = lt_of_lt_of_le on.inside found.marks-long;
-    value_bound = writing-fits _ _ _ _ found _ _ _ c.in-Writing.is
+      ready = on.ready;
+      step_bound = on.step-due;
+      registers_in_bounds = found.held-long;
+      v_in_bounds = lt_of_lt_of_le on.inside found.marks-long;
+      value_bound = writing-fits _ _ _ _ found _ _ _ c.in-Writing.is;
     }
 
 pub returns-in-Idle : goal.returns-in-Idle

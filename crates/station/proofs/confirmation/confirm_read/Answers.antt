@@ -25,9 +25,9 @@ pub next_read-requires : goal.next_read-requires
 next_read-requires c =
     let p = c.requires in
     record {
-    ready = p.ready;
-    step_bound = omega (arith, p.step_bound);
-    gathered_bound = rw c.gather_byte-value.ensures (gathered-fits _ _ _ _ _)
+      ready = p.ready;
+      step_bound = omega (arith, p.step_bound);
+      gathered_bound = rw c.gather_byte-value.ensures (gathered-fits _ _ _ _ _);
     }
 
 pub returns : goal.returns

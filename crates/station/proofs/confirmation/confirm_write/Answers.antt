@@ -11,10 +11,10 @@ pub next_write-requires : goal.next_write-requires
 next_write-requires c =
     let p = c.requires in
     record {
-    ready = p.ready;
-    step_bound = omega (arith, p.step_bound);
-    v_in_bounds = p.v_in_bounds;
-    value_bound = p.value_bound
+      ready = p.ready;
+      step_bound = omega (arith, p.step_bound);
+      v_in_bounds = p.v_in_bounds;
+      value_bound = p.value_bound;
     }
 
 pub returns : goal.returns

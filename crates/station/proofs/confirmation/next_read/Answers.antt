@@ -9,26 +9,26 @@ use Rattle.station.proofs.confirmation.next_read.Goals as goal
 
 pub access_count-requires : goal.access_count-requires
 access_count-requires c = record {
-    v_bound = (c.requires.ready.few, search rules);
-    usable = c.requires.ready.usable
-    }
+  v_bound = (c.requires.ready.few, search rules);
+  usable = c.requires.ready.usable;
+}
 
 pub overflow_sub-unread : goal.overflow_sub-unread
 overflow_sub-unread c = omega (arith, c.access_count.ensures, c.requires.step_bound)
 
 pub offer_read-requires : goal.offer_read-requires
 offer_read-requires c = record {
-    ready = c.requires.ready;
-    step_bound = some_left _ _ (rw c.access_count.ensures at c.if-unread-gt0.true)
-    }
+  ready = c.requires.ready;
+  step_bound = some_left _ _ (rw c.access_count.ensures at c.if-unread-gt0.true);
+}
 
 pub finish-requires : goal.finish-requires
 finish-requires c =
     let p = c.requires in
     record {
-    v_bound = (p.ready.few, search rules);
-    usable = p.ready.usable;
-    v_bound_2 = (p.ready.narrow, p.gathered_bound)
+      v_bound = (p.ready.few, search rules);
+      usable = p.ready.usable;
+      v_bound_2 = (p.ready.narrow, p.gathered_bound);
     }
 
 pub returns-then-unread-gt0 : goal.returns-then-unread-gt0

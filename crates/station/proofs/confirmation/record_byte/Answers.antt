@@ -10,17 +10,17 @@ use Rattle.station.proofs.confirmation.record_byte.Goals as goal
 
 pub register_of-r-requires : goal.register_of-r-requires
 register_of-r-requires c = record {
-    v_bound = (c.requires.ready.few, search rules);
-    usable = c.requires.ready.usable
-    }
+  v_bound = (c.requires.ready.few, search rules);
+  usable = c.requires.ready.usable;
+}
 
 pub byte_to_write-byte-requires : goal.byte_to_write-byte-requires
 byte_to_write-byte-requires c =
     let p = c.requires in
     record {
-    v_bound = p.ready.few;
-    usable = p.ready.usable;
-    byte = subst (λ (r : ℕ). Byte c.args.registers.now r) (sym c.register_of-r.ensures) (p.ready.bytes _ p.step_bound)
+      v_bound = p.ready.few;
+      usable = p.ready.usable;
+      byte = subst (λ (r : ℕ). Byte c.args.registers.now r) (sym c.register_of-r.ensures) (p.ready.bytes _ p.step_bound);
     }
 
 pub offset_bounds-held-r : goal.offset_bounds-held-r

@@ -16,8 +16,8 @@ pub copy_numbers-requires : goal.copy_numbers-requires
 copy_numbers-requires c =
     let clear = opens (tables_of c.args.parameters.now c.args.registers.now c.args.variables.now) _ _ _ _ c.open_fault-number.ensures c.if-number-ne0.false in
     record {
-    n_in_bounds = rw c.word.ensures.is clear.held-long;
-    n_bound = c.word.ensures.small
+      n_in_bounds = rw c.word.ensures.is clear.held-long;
+      n_bound = c.word.ensures.small;
     }
 
 pub clear_marks-requires : goal.clear_marks-requires

@@ -7,17 +7,17 @@ use Rattle.station.proofs.outcomes.offer_write.Goals as goal
 
 pub register_of-r-requires : goal.register_of-r-requires
 register_of-r-requires c = record {
-    v_bound = (c.requires.ready.few, search rules);
-    usable = c.requires.ready.usable
-    }
+  v_bound = (c.requires.ready.few, search rules);
+  usable = c.requires.ready.usable;
+}
 
 pub write_access-offered-requires : goal.write_access-offered-requires
 write_access-offered-requires c =
     let p = c.requires in
     record {
-    v_bound = p.ready.few;
-    usable = p.ready.usable;
-    byte = subst (λ (r : ℕ). Byte c.args.registers.now r) (sym c.register_of-r.ensures) (p.ready.bytes _ p.step_bound)
+      v_bound = p.ready.few;
+      usable = p.ready.usable;
+      byte = subst (λ (r : ℕ). Byte c.args.registers.now r) (sym c.register_of-r.ensures) (p.ready.bytes _ p.step_bound);
     }
 
 pub returns : goal.returns

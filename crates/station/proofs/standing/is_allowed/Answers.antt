@@ -15,9 +15,9 @@ pub is_gathered-requires : goal.is_gathered-requires
 is_gathered-requires c =
     let ready = c.requires.ready _ 0 (due-variable _ _ _ _ (sym c.is_due.ensures ∙ c.if-not-is_due.false)) (omega arith) in
     record {
-    v_bound = ready.few;
-    usable = ready.usable;
-    v_bound_2 = ready.narrow
+      v_bound = ready.few;
+      usable = ready.usable;
+      v_bound_2 = ready.narrow;
     }
 
 pub returns-then-not-is_due-2 : goal.returns-then-not-is_due-2

@@ -24,8 +24,8 @@ access_count-requires c =
     let inside = rw c.word.ensures.is at c.if-word-v.false in
     let ready = p.sound.ready _ _ inside p.side_bound in
     record {
-    v_bound = (ready.few, p.side_bound);
-    usable = ready.usable
+      v_bound = (ready.few, p.side_bound);
+      usable = ready.usable;
     }
 
 pub returns : goal.returns

@@ -8,9 +8,9 @@ use Rattle.station.proofs.standing.is_gathered.Goals as goal
 
 pub assemble-requires : goal.assemble-requires
 assemble-requires c = record {
-    usable = usable_same c.part_of-part.ensures c.requires.usable;
-    width_le_widest = omega (arith, c.width_of-width.ensures, c.requires.v_bound_2)
-    }
+  usable = usable_same c.part_of-part.ensures c.requires.usable;
+  width_le_widest = omega (arith, c.width_of-width.ensures, c.requires.v_bound_2);
+}
 
 pub returns : goal.returns
 unfolding gathered_so
