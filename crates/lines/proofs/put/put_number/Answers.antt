@@ -8,6 +8,6 @@ use Rattle.lines.proofs.put.put_number.Goals as goal
 pub returns : goal.returns
 unfolding numbered
 returns c = record {
-    stored = put_both c.put_bytes-behind.ensures c.put_decimal.ensures;
-    near = omega (arith, c.put_bytes-behind.ensures.behind, c.put_decimal.ensures.behind, decimal-short c.args.number)
-    }
+  stored = put_both c.put_bytes-behind.ensures c.put_decimal.ensures;
+  near = omega (arith, c.put_bytes-behind.ensures.behind, c.put_decimal.ensures.behind, decimal-short c.args.number);
+}
