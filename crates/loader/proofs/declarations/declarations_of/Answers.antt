@@ -5,15 +5,14 @@ use Rattle.loader.specs.Judge.{progress_of}
 use Rattle.loader.proofs.LoadSteps.{declarations-are}
 use Rattle.loader.proofs.NextSteps.{ready-still}
 use Rattle.loader.proofs.KnownLaws.{known-moved}
-use borrow.Author.Rules.{rules}
 use Rattle.loader.proofs.declarations.declarations_of.Goals as goal
 
 pub declaration_next-one-requires : goal.declaration_next-one-requires
 unfolding progress_of
 declaration_next-one-requires c = record {
-    noted_2 = record { ready = ready-still [] _ _ _ _ _ c.past-inside.ensures c.requires.ready; names = known-moved _ _ _ _ _ _ _ c.past-inside.ensures c.requires.names };
-    seen_value = c.look-seen.ensures
-    }
+  noted_2 = record { ready = ready-still [] _ _ _ _ _ c.past-inside.ensures c.requires.ready; names = known-moved _ _ _ _ _ _ _ c.past-inside.ensures c.requires.names };
+  seen_value = c.look-seen.ensures;
+}
 
 pub more_declarations-all-requires : goal.more_declarations-all-requires
 more_declarations-all-requires c = c.declaration_next-one.ensures.noted
@@ -36,6 +35,6 @@ shape_of-known c = c.more_declarations-all.auto.known ∙ c.declaration_next-one
 pub returns : goal.returns
 unfolding progress_of
 returns c = record {
-    read = declarations-are _ _ _ _ _ _ _ _ _ _ _ refl c.past-inside.ensures c.declaration_next-one.ensures.read c.more_declarations-all.ensures.read refl c.past.ensures;
-    noted = record { ready = ready-still [] _ _ _ _ _ c.past.ensures c.more_declarations-all.ensures.noted.ready; names = known-moved _ _ _ _ _ _ _ c.past.ensures c.more_declarations-all.ensures.noted.names }
-    }
+  read = declarations-are _ _ _ _ _ _ _ _ _ _ _ refl c.past-inside.ensures c.declaration_next-one.ensures.read c.more_declarations-all.ensures.read refl c.past.ensures;
+  noted = record { ready = ready-still [] _ _ _ _ _ c.past.ensures c.more_declarations-all.ensures.noted.ready; names = known-moved _ _ _ _ _ _ _ c.past.ensures c.more_declarations-all.ensures.noted.names };
+}

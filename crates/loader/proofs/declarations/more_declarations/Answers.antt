@@ -1,13 +1,10 @@
 -- `loader::declarations::more_declarations` meets its contract.
 use native.Mathlib.Omega.{arith}
-use mathlib.Core.Path.{◌≡◌, refl, sym, ◌∙◌}
-use lib.ListN.{length}
+use mathlib.Core.Path.{refl, sym, ◌∙◌}
 use Rattle.syntax.specs.Text.{more_declarations}
 use Rattle.syntax.proofs.LoopSteps.{loop-full, turn_end, turn_on}
-use Rattle.loader.specs.Judge.{judge, progress_of}
-use Rattle.loader.specs.Ready.{Noted}
+use Rattle.loader.specs.Judge.{progress_of}
 use Rattle.logic.proofs.Tests.{passed, failed}
-use borrow.Author.Rules.{rules}
 use Rattle.loader.proofs.declarations.more_declarations.Goals as goal
 
 pub loop-room-init : goal.loop-room-init
@@ -31,15 +28,15 @@ shape_of-known-then-not-declares c = c.loop-room.invariant.4
 pub returns-then-not-declares : goal.returns-then-not-declares
 unfolding more_declarations progress_of
 returns-then-not-declares c = record {
-    read = sym (c.loop-room.invariant.5 ∙ turn_end _ _ _ _ _ _ c.look-seen.ensures _ (failed c.declares.ensures c.if-not-declares.true));
-    noted = c.loop-room.invariant.6
-    }
+  read = sym (c.loop-room.invariant.5 ∙ turn_end _ _ _ _ _ _ c.look-seen.ensures _ (failed c.declares.ensures c.if-not-declares.true));
+  noted = c.loop-room.invariant.6;
+}
 
 pub declaration_next-all-requires : goal.declaration_next-all-requires
 declaration_next-all-requires c = record {
-    noted_2 = c.loop-room.invariant.6;
-    seen_value = c.look-seen.ensures
-    }
+  noted_2 = c.loop-room.invariant.6;
+  seen_value = c.look-seen.ensures;
+}
 
 pub overflow_sub-room : goal.overflow_sub-room
 overflow_sub-room c = omega (arith, c.loop-room-test.true)
@@ -79,6 +76,6 @@ shape_of-known c = c.loop-room.invariant.4
 pub returns : goal.returns
 unfolding more_declarations progress_of
 returns c = record {
-    read = sym (c.loop-room.invariant.5 ∙ loop-full _ _ _ _ _ _ (omega (arith, c.loop-room-test.false)));
-    noted = c.loop-room.invariant.6
-    }
+  read = sym (c.loop-room.invariant.5 ∙ loop-full _ _ _ _ _ _ (omega (arith, c.loop-room-test.false)));
+  noted = c.loop-room.invariant.6;
+}

@@ -1,13 +1,9 @@
 -- `loader::declarations::more_declarations` meets its contract.
-use native.Mathlib.Omega.{arith}
-use mathlib.Core.Path.{◌≡◌, refl, sym, ◌∙◌}
+use mathlib.Core.Path.{◌≡◌}
 use lib.ListN.{length}
 use Rattle.syntax.specs.Text.{more_declarations}
-use Rattle.syntax.proofs.LoopSteps.{loop-full, turn_end, turn_on}
 use Rattle.loader.specs.Judge.{judge, progress_of}
 use Rattle.loader.specs.Ready.{Noted}
-use Rattle.logic.proofs.Tests.{passed, failed}
-use borrow.Author.Rules.{rules}
 use Rattle.loader.proofs.declarations.more_declarations.Given as goal
 
 abbrev pub invariant-loop-room : goal.invariant-loop-room

@@ -1,7 +1,6 @@
 -- `loader::declarations::past` meets its contract.
 use mathlib.Core.Path.{◌∙◌, ap}
 use Rattle.loader.specs.Judge.{moved_by}
-use borrow.Author.Rules.{rules}
 use Rattle.loader.proofs.declarations.past.Goals as goal
 
 pub returns : goal.returns

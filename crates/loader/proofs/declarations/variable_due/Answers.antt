@@ -10,7 +10,6 @@ use Rattle.loader.proofs.VariableReady.{judged-asks}
 use Rattle.loader.proofs.NextSteps.{variable-stops, variable-goes, variable-ready, ready-still}
 use Rattle.loader.specs.declared.heading.Loading.{Loading}
 use Rattle.loader.proofs.KnownLaws.{known-moved, known-still}
-use borrow.Author.Rules.{rules}
 use Rattle.loader.proofs.declarations.variable_due.Goals as goal
 
 pub returns-in_default : goal.returns-in_default
@@ -18,8 +17,8 @@ unfolding progress_of
 returns-in_default c =
     let e = c.variable_behind-one.ensures _ c.requires.word_value in
     record {
-    read = variable-stops _ _ _ _ _ (lt-leb _ _ c.requires.variables_bound) e.0 c.fixed_after-end.ensures c.in_default.is c.moved.ensures;
-    noted = record { ready = ready-still [] _ _ _ _ _ c.moved.ensures c.requires.noted_2.ready; names = known-moved _ _ _ _ _ _ _ c.moved.ensures c.requires.noted_2.names }
+      read = variable-stops _ _ _ _ _ (lt-leb _ _ c.requires.variables_bound) e.0 c.fixed_after-end.ensures c.in_default.is c.moved.ensures;
+      noted = record { ready = ready-still [] _ _ _ _ _ c.moved.ensures c.requires.noted_2.ready; names = known-moved _ _ _ _ _ _ _ c.moved.ensures c.requires.noted_2.names };
     }
 
 pub variable_judged-judging-requires : goal.variable_judged-judging-requires
@@ -27,8 +26,8 @@ unfolding progress_of state_of
 variable_judged-judging-requires c =
     let e = c.variable_behind-one.ensures _ c.requires.word_value in
     record {
-    judgeable = judged-asks _ c.requires.noted_2.ready _ (lt-leb _ _ c.requires.variables_bound) (subst WellRead (sym e.0) (well-read _ _ _ _));
-    known = c.requires.noted_2.names
+      judgeable = judged-asks _ c.requires.noted_2.ready _ (lt-leb _ _ c.requires.variables_bound) (subst WellRead (sym e.0) (well-read _ _ _ _));
+      known = c.requires.noted_2.names;
     }
 
 pub with_variable-requires : goal.with_variable-requires
@@ -43,6 +42,6 @@ returns c =
     let g = c.in-At.is in
     let j = c.variable_judged-judging.ensures in
     record {
-    read = variable-goes _ _ _ _ _ l e.0 f _ _ e.1 e.2 g j.judged c.with_variable.ensures;
-    noted = record { ready = variable-ready _ _ _ _ _ l e.0 f _ _ e.1 e.2 g j.judged c.with_variable.ensures c.requires.noted_2.ready j.mapped; names = known-still _ _ _ _ _ (ap (λ (l : Loading). l.judging) c.with_variable.ensures) j.names }
+      read = variable-goes _ _ _ _ _ l e.0 f _ _ e.1 e.2 g j.judged c.with_variable.ensures;
+      noted = record { ready = variable-ready _ _ _ _ _ l e.0 f _ _ e.1 e.2 g j.judged c.with_variable.ensures c.requires.noted_2.ready j.mapped; names = known-still _ _ _ _ _ (ap (λ (l : Loading). l.judging) c.with_variable.ensures) j.names };
     }

@@ -1,7 +1,6 @@
 -- `loader::declarations::with_variable` meets its contract.
 use mathlib.Core.Path.{refl}
 use Rattle.loader.specs.Judge.{variable_more}
-use borrow.Author.Rules.{rules}
 use Rattle.loader.proofs.declarations.with_variable.Goals as goal
 
 pub returns : goal.returns

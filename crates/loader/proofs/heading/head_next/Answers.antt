@@ -6,7 +6,6 @@ use Rattle.rules.specs.State.{state_of}
 use Rattle.rules.specs.Parameter.{judge_device}
 use Rattle.loader.specs.Judge.{judge, progress_of}
 use Rattle.loader.proofs.LoadSteps.{moved_to_lem}
-use borrow.Author.Rules.{rules}
 use Rattle.loader.proofs.heading.head_next.Goals as goal
 
 pub returns-in_default : goal.returns-in_default

@@ -1,12 +1,10 @@
 -- `loader::heading::more_parameters` meets its contract.
 use native.Mathlib.Omega.{arith}
-use mathlib.Core.Path.{◌≡◌, refl, sym, ◌∙◌}
-use lib.ListN.{length}
-use borrow.Author.Rules.{rules}
+use mathlib.Core.Path.{refl, sym, ◌∙◌}
 use borrow.Author.Tests.{eq-eqb, ne_eqb}
 use Rattle.syntax.specs.Text.{more_parameters}
 use Rattle.syntax.proofs.LoopSteps.{loop-full, turn_end, turn_on}
-use Rattle.loader.specs.Judge.{judge, progress_of}
+use Rattle.loader.specs.Judge.{progress_of}
 use Rattle.loader.proofs.LoadSteps.{parameter-turn}
 use Rattle.loader.proofs.heading.more_parameters.Goals as goal
 

@@ -5,7 +5,6 @@ use Rattle.syntax.specs.Text.{parameter_with}
 use Rattle.loader.specs.Judge.{progress_of}
 use Rattle.loader.proofs.LoadSteps.{moved_to_lem}
 use borrow.Author.Tests.{le-leb, lt-leb}
-use borrow.Author.Rules.{rules}
 use Rattle.loader.proofs.heading.parameter_next.Goals as goal
 
 pub returns-then-loading-ge16 : goal.returns-then-loading-ge16

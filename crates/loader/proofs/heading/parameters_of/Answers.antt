@@ -1,5 +1,4 @@
 -- `loader::heading::parameters_of` meets its contract.
-use borrow.Author.Rules.{rules}
 use Rattle.loader.proofs.LoadSteps.{parameters-are}
 use Rattle.loader.proofs.heading.parameters_of.Goals as goal
 

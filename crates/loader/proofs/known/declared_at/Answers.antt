@@ -1,5 +1,4 @@
 -- `loader::known::declared_at` meets its contract.
-use borrow.Author.Rules.{rules}
 use Rattle.loader.proofs.known.declared_at.Goals as goal
 
 pub returns : goal.returns

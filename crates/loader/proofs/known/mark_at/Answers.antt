@@ -1,7 +1,6 @@
 -- `loader::known::mark_at` meets its contract.
 use mathlib.Core.Path.{◌∙◌, ap}
 use Rattle.loader.specs.Known.{mark_of}
-use borrow.Author.Rules.{rules}
 use Rattle.loader.proofs.known.mark_at.Goals as goal
 
 pub returns : goal.returns

@@ -1,5 +1,4 @@
 use Rattle.loader.proofs.KnownLaws.{entry-number, entry-last, marked-there}
-use borrow.Author.Rules.{rules}
 use Rattle.loader.proofs.known.mark_entry.Goals as goal
 
 pub returns-then-start-last : goal.returns-then-start-last

@@ -1,9 +1,6 @@
 -- `loader::known::mark_heading` meets its contract.
-use Prim.Native.Nat.{◌-◌}
-use mathlib.Core.Path.{◌≡◌, refl, ◌∙◌}
-use lib.ListN.{length}
-use Rattle.loader.proofs.KnownLaws.{HeadMarks, heading-first, heading-more, heading-known, entry-number, marked-there}
-use borrow.Author.Rules.{rules}
+use mathlib.Core.Path.{refl, ◌∙◌}
+use Rattle.loader.proofs.KnownLaws.{heading-first, heading-more, heading-known, entry-number, marked-there}
 use Rattle.loader.proofs.known.mark_heading.Goals as goal
 
 pub loop-i-init : goal.loop-i-init

@@ -1,9 +1,8 @@
 -- `loader::known::mark_heading` meets its contract.
 use Prim.Native.Nat.{◌-◌}
-use mathlib.Core.Path.{◌≡◌, refl, ◌∙◌}
+use mathlib.Core.Path.{◌≡◌}
 use lib.ListN.{length}
-use Rattle.loader.proofs.KnownLaws.{HeadMarks, heading-first, heading-more, heading-known, entry-number, marked-there}
-use borrow.Author.Rules.{rules}
+use Rattle.loader.proofs.KnownLaws.{HeadMarks}
 use Rattle.loader.proofs.known.mark_heading.Given as goal
 
 abbrev pub invariant-loop-i : goal.invariant-loop-i

@@ -1,12 +1,8 @@
 -- `loader::known::mark_of` meets its contract.
 use Prim.Native.Nat.{◌-◌, ◌<◌}
-use native.Mathlib.Omega.{arith}
-use native.Mathlib.Nat.{mod-lt}
-use mathlib.Core.Path.{◌≡◌, refl, sym, ◌∙◌}
+use mathlib.Core.Path.{◌≡◌}
 use lib.ListN.{length, drop}
-use borrow.Author.Rules.{rules}
 use Rattle.loader.specs.Known.{mark_from, mark_of}
-use Rattle.loader.proofs.KnownLaws.{mark_on, mark-end}
 use Rattle.loader.proofs.known.mark_of.Given as goal
 
 abbrev pub invariant-loop-k : goal.invariant-loop-k

@@ -1,6 +1,5 @@
 -- `loader::whole::is_accepted` meets its contract.
 use Rattle.loader.specs.Load.{is_accepted}
-use borrow.Author.Rules.{rules}
 use Rattle.loader.proofs.whole.is_accepted.Goals as goal
 
 pub returns-in-Accepted : goal.returns-in-Accepted

@@ -5,7 +5,6 @@ use Rattle.tables.specs.Words.{count_of}
 use Rattle.loader.specs.Judge.{progress_of}
 use Rattle.loader.proofs.LoadLaws.{blank-is, ready-start, text-judged}
 use Rattle.loader.proofs.NextSteps.{ready-still}
-use borrow.Author.Rules.{rules}
 use Rattle.loader.proofs.whole.judge_text.Goals as goal
 
 pub mark_heading-requires : goal.mark_heading-requires
@@ -22,6 +21,6 @@ shape_of-parameters c = c.parameters_of-headed.auto.parameters
 
 pub returns : goal.returns
 returns c = record {
-    read = text-judged _ _ _ _ (blank-is _ _ _ c.requires.variables_value) _ _ c.at_start-start.ensures c.parameters_of-headed.ensures _ _ _ c.declarations_of-all.ensures.read c.fixed_after-end.ensures c.moved.ensures;
-    ready = ready-still [] _ _ _ _ _ c.moved.ensures c.declarations_of-all.ensures.noted.ready
-    }
+  read = text-judged _ _ _ _ (blank-is _ _ _ c.requires.variables_value) _ _ c.at_start-start.ensures c.parameters_of-headed.ensures _ _ _ c.declarations_of-all.ensures.read c.fixed_after-end.ensures c.moved.ensures;
+  ready = ready-still [] _ _ _ _ _ c.moved.ensures c.declarations_of-all.ensures.noted.ready;
+}

@@ -2,7 +2,6 @@
 use mathlib.Core.Path.{sym, ◌∙◌}
 use borrow.Author.Tests.{lt-ltb, le-ltb}
 use Rattle.loader.specs.Load.{judged_as}
-use borrow.Author.Rules.{rules}
 use Rattle.loader.proofs.whole.judged_as.Goals as goal
 
 pub returns-then-is_fault : goal.returns-then-is_fault

@@ -1,6 +1,5 @@
 -- `loader::whole::load_into` meets its contract.
 use mathlib.Core.Path.{◌∙◌}
-use borrow.Author.Rules.{rules}
 use Rattle.loader.specs.Load.{Sized}
 use Rattle.loader.proofs.LoadLaws.{cleared-blank, left-accepted, left-refused}
 use Rattle.loader.proofs.whole.load_into.Goals as goal
@@ -19,9 +18,9 @@ shape_of-variables-then-is_accepted c = c.verdict_on-verdict.auto.variables ∙ 
 
 pub returns-then-is_accepted : goal.returns-then-is_accepted
 returns-then-is_accepted c = record {
-    answered = c.verdict_on-verdict.ensures.answered;
-    left = left-accepted _ c.verdict_on-verdict.ensures.answered c.is_accepted.ensures c.if-is_accepted.true c.verdict_on-verdict.ensures.left
-    }
+  answered = c.verdict_on-verdict.ensures.answered;
+  left = left-accepted _ c.verdict_on-verdict.ensures.answered c.is_accepted.ensures c.if-is_accepted.true c.verdict_on-verdict.ensures.left;
+}
 
 pub shape_of-parameters : goal.shape_of-parameters
 shape_of-parameters c = c.clear-4.auto.table ∙ c.verdict_on-verdict.auto.parameters ∙ c.clear.auto.table
@@ -44,6 +43,6 @@ returns c =
       variables = c.verdict_on-verdict.auto.variables ∙ c.clear-3.auto.table ∙ c.requires.variables;
     } in
     record {
-    answered = c.verdict_on-verdict.ensures.answered;
-    left = left-refused _ c.verdict_on-verdict.ensures.answered c.is_accepted.ensures c.if-is_accepted.false (cleared-blank p r v sized c.clear-4.ensures c.clear-5.ensures c.clear-6.ensures)
+      answered = c.verdict_on-verdict.ensures.answered;
+      left = left-refused _ c.verdict_on-verdict.ensures.answered c.is_accepted.ensures c.if-is_accepted.false (cleared-blank p r v sized c.clear-4.ensures c.clear-5.ensures c.clear-6.ensures);
     }

@@ -1,6 +1,5 @@
 -- `loader::whole::once_read` meets its contract.
 use Rattle.loader.specs.Load.{once_read}
-use borrow.Author.Rules.{rules}
 use Rattle.loader.proofs.whole.once_read.Goals as goal
 
 pub returns-in-Refused : goal.returns-in-Refused
