@@ -5,7 +5,6 @@ use lib.Seq.{length-take-le}
 use Rattle.loader.specs.Load.{loaded, lent_as}
 use Rattle.pieces.specs.Pieces.{ended_as, held_as, end_of}
 use Rattle.pieces.proofs.PieceLaws.{ended_is, stored-long}
-use borrow.Author.Rules.{rules}
 use Rattle.pieces.proofs.end_pieces.Goals as goal
 
 pub returns-then-is_short : goal.returns-then-is_short

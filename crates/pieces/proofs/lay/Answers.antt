@@ -1,9 +1,8 @@
 use Rattle.pieces.proofs.PieceLaws.{laid-turn, laid-all}
-use Prim.Native.Nat.{◌-◌, ◌≤◌}
-use mathlib.Core.Path.{◌≡◌, refl}
+use mathlib.Core.Path.{refl}
 use native.Mathlib.Omega.{arith}
-use lib.ListN.{length, length-set}
-use lib.Seq.{paste, paste-zero}
+use lib.ListN.{length-set}
+use lib.Seq.{paste-zero}
 use Rattle.pieces.proofs.lay.Goals as goal
 
 pub loop-i-init : goal.loop-i-init

@@ -1,9 +1,7 @@
-use Rattle.pieces.proofs.PieceLaws.{laid-turn, laid-all}
 use Prim.Native.Nat.{◌-◌, ◌≤◌}
-use mathlib.Core.Path.{◌≡◌, refl}
-use native.Mathlib.Omega.{arith}
-use lib.ListN.{length, length-set}
-use lib.Seq.{paste, paste-zero}
+use mathlib.Core.Path.{◌≡◌}
+use lib.ListN.{length}
+use lib.Seq.{paste}
 use Rattle.pieces.proofs.lay.Given as goal
 
 abbrev pub invariant-loop-i : goal.invariant-loop-i

@@ -4,7 +4,6 @@ use native.Mathlib.Omega.{arith}
 use lib.ListN.{length}
 use Rattle.pieces.specs.Pieces.{took_as, held_as, passes, piece_of}
 use Rattle.pieces.proofs.PieceLaws.{room_for, within, took-is}
-use borrow.Author.Rules.{rules}
 use Rattle.pieces.proofs.take_piece.Goals as goal
 
 pub returns-then-is_short : goal.returns-then-is_short
