@@ -1,7 +1,6 @@
 -- `station::abandoning::abandon` meets its contract.
 use mathlib.Core.Path.{ap}
 use native.Mathlib.Nat.{lt_of_lt_of_le}
-use borrow.Author.Rules.{rules}
 use Rattle.station.specs.Standing.{tables_of}
 use Rattle.station.specs.Station.{state_of, abandoned_by}
 use Rattle.station.proofs.Laws.{no_fault_lem}

@@ -1,6 +1,5 @@
 -- `station::accesses::access_of` meets its contract.
 use mathlib.Core.Path.{sym}
-use borrow.Author.Rules.{rules}
 use Rattle.station.proofs.accesses.access_of.Goals as goal
 
 pub returns : goal.returns

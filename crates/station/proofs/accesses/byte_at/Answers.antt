@@ -1,7 +1,6 @@
 -- `station::accesses::byte_at` meets its contract.
 use mathlib.Core.Path.{sym}
 use lib.ListN.{get_or-eq_default}
-use borrow.Author.Rules.{rules}
 use Rattle.station.proofs.accesses.byte_at.Goals as goal
 
 pub returns-else-i-bytes : goal.returns-else-i-bytes

@@ -4,7 +4,6 @@ use native.Mathlib.Nat.{lt_of_lt_of_le}
 use lib.Pow.{pow_mono}
 use mathlib.Core.Path.{◌∙◌, ap}
 use native.Mathlib.Omega.{arith}
-use borrow.Author.Rules.{rules}
 use Rattle.wiring.specs.declared.Cell.{Cell}
 use Rattle.wiring.specs.declared.Rule.TheVariants.{Written}
 use Rattle.wiring.specs.Assembly.{bit_by}

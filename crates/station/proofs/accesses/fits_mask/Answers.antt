@@ -1,6 +1,5 @@
 -- `station::accesses::fits_mask` meets its contract.
 use mathlib.Core.Path.{sym}
-use borrow.Author.Rules.{rules}
 use Rattle.station.proofs.accesses.fits_mask.Goals as goal
 
 pub returns : goal.returns

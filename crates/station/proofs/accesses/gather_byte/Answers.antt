@@ -2,7 +2,6 @@
 use Prim.Native.Nat.{ℕ}
 use mathlib.Core.Path.{◌∙◌, ap}
 use native.Mathlib.Omega.{arith}
-use borrow.Author.Rules.{rules}
 use Rattle.wiring.specs.declared.Rule.TheVariants.{Gathered}
 use Rattle.station.specs.Access.{gather_byte}
 use Rattle.station.proofs.Laws.{assembled-same, usable_same}

@@ -1,6 +1,5 @@
 -- `station::accesses::write_access` meets its contract.
 use mathlib.Core.Path.{◌∙◌, ap}
-use borrow.Author.Rules.{rules}
 use Rattle.tables.specs.declared.Part.TheVariants.{Write}
 use Rattle.station.specs.Access.{access_of}
 use Rattle.station.proofs.accesses.write_access.Goals as goal

@@ -2,7 +2,6 @@
 use mathlib.Core.Path.{◌∙◌, sym}
 use native.Mathlib.Omega.{arith}
 use borrow.Author.Tests.{lt-ltb, le-ltb}
-use borrow.Author.Rules.{rules}
 use Rattle.station.specs.Standing.{tables_of}
 use Rattle.station.specs.Station.{begin_fault}
 use Rattle.station.proofs.Laws.{no_fault_lem, comes-first, next-decides}

@@ -1,7 +1,6 @@
 -- `station::begin::begin_read` meets its contract.
 use mathlib.Core.Path.{◌∙◌, sym, ap}
 use native.Mathlib.Omega.{arith}
-use borrow.Author.Rules.{rules}
 use Rattle.station.specs.Standing.{tables_of}
 use Rattle.station.specs.Station.{state_of, leave}
 use Rattle.station.proofs.CallLaws.{leaves, begins, read-marked, read-starts}

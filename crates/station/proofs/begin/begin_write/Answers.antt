@@ -2,7 +2,6 @@
 use mathlib.Core.Path.{◌∙◌, ap}
 use native.Mathlib.Omega.{arith}
 use mir.Facts.{to_z-of_z}
-use borrow.Author.Rules.{rules}
 use Rattle.bits.specs.declared.values.Encoded.{Encoded}
 use Rattle.station.specs.Standing.{tables_of}
 use Rattle.station.specs.Station.{state_of, leave, refusal, outside_number, started_write}

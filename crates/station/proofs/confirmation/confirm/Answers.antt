@@ -2,7 +2,6 @@
 -- ask from `Clear` and `Underway`; its answer is a law of `confirmed_by`.
 use mathlib.Core.Path.{ap}
 use native.Mathlib.Nat.{lt_of_lt_of_le}
-use borrow.Author.Rules.{rules}
 use Rattle.station.specs.Station.{confirmed_by, state_of}
 use Rattle.station.specs.Standing.{tables_of}
 use Rattle.station.proofs.CallLaws.{leaves, reading, writing, writing-fits}

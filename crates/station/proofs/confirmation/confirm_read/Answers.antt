@@ -1,7 +1,6 @@
 -- `station::confirmation::confirm_read` meets its contract.
 use mathlib.Core.Path.{◌∙◌, ap, sym}
 use native.Mathlib.Omega.{arith}
-use borrow.Author.Rules.{rules}
 use Rattle.station.specs.Station.{next_read}
 use Rattle.station.proofs.CallLaws.{few-steps, gathered-fits, read-goes_on, read-contradicts}
 use Rattle.station.proofs.confirmation.confirm_read.Goals as goal

@@ -1,6 +1,5 @@
 -- `station::confirmation::confirm_write` meets its contract.
 use native.Mathlib.Omega.{arith}
-use borrow.Author.Rules.{rules}
 use Rattle.station.proofs.CallLaws.{few-steps, leaves-as, write-recorded}
 use Rattle.station.proofs.confirmation.confirm_write.Goals as goal
 

@@ -1,10 +1,8 @@
 -- `station::opening::clear_marks` meets its contract.
-use Prim.Native.Nat.{◌-◌, ◌≤◌}
 use mathlib.Core.Path.{◌≡◌, sym, refl}
 use native.Mathlib.Omega.{arith}
 use borrow.Author.Rules.{rules}
-use lib.ListN.{length, length-set}
-use Rattle.station.specs.Station.{stored}
+use lib.ListN.{length-set}
 use Rattle.station.proofs.CallLaws.{stored-turn, stored-none}
 use Rattle.station.proofs.opening.clear_marks.Goals as goal
 

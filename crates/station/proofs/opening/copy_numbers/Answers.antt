@@ -1,10 +1,9 @@
 -- `station::opening::copy_numbers` meets its contract.
-use Prim.Native.Nat.{◌-◌, ◌≤◌, ◌^◌}
+use Prim.Native.Nat.{◌^◌}
 use native.Mathlib.Nat.{mod-le, lt_of_le_of_lt}
 use mathlib.Core.Path.{◌≡◌, sym, refl, ◌∙◌}
 use native.Mathlib.Omega.{arith}
-use lib.ListN.{length, length-set}
-use Rattle.station.specs.Station.{stored, power_of}
+use lib.ListN.{length-set}
 use Rattle.station.proofs.CallLaws.{stored-turn, stored-none}
 use borrow.Author.Rules.{rules}
 use Rattle.station.proofs.opening.copy_numbers.Goals as goal

@@ -1,12 +1,8 @@
 -- `station::opening::copy_numbers` meets its contract.
-use Prim.Native.Nat.{◌-◌, ◌≤◌, ◌^◌}
-use native.Mathlib.Nat.{mod-le, lt_of_le_of_lt}
-use mathlib.Core.Path.{◌≡◌, sym, refl, ◌∙◌}
-use native.Mathlib.Omega.{arith}
-use lib.ListN.{length, length-set}
+use Prim.Native.Nat.{◌-◌, ◌≤◌}
+use mathlib.Core.Path.{◌≡◌}
+use lib.ListN.{length}
 use Rattle.station.specs.Station.{stored, power_of}
-use Rattle.station.proofs.CallLaws.{stored-turn, stored-none}
-use borrow.Author.Rules.{rules}
 use Rattle.station.proofs.opening.copy_numbers.Given as goal
 
 abbrev pub invariant-loop-i : goal.invariant-loop-i

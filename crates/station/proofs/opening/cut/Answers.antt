@@ -5,7 +5,6 @@ use mathlib.Core.Path.{sym}
 use lib.Bits.{and_mask}
 use lib.Pow.{pow_pos, pow_mono}
 use Rattle.bits.specs.Widths.{widest}
-use borrow.Author.Rules.{rules}
 use Rattle.station.proofs.opening.cut.Goals as goal
 
 pub overflow_sub-result : goal.overflow_sub-result

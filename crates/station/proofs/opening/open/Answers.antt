@@ -6,7 +6,6 @@ use Rattle.station.specs.Station.{state_of, stored, power_of}
 use Rattle.station.proofs.CallLaws.{opens}
 use Rattle.station.proofs.Meeting.{meets-refused, meets-passed}
 use Rattle.station.proofs.Bridge.{open_is}
-use borrow.Author.Rules.{rules}
 use Rattle.station.proofs.opening.open.Goals as goal
 
 pub returns-then-number-ne0 : goal.returns-then-number-ne0

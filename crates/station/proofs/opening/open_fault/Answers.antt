@@ -1,7 +1,6 @@
 -- `station::opening::open_fault` meets its contract.
 use mathlib.Core.Path.{◌∙◌, sym}
 use borrow.Author.Tests.{lt-ltb, le-ltb}
-use borrow.Author.Rules.{rules}
 use Rattle.station.specs.Station.{open_fault}
 use Rattle.station.proofs.Laws.{comes-first, next-decides}
 use Rattle.station.proofs.opening.open_fault.Goals as goal

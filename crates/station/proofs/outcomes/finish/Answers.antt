@@ -1,7 +1,6 @@
 -- `station::outcomes::finish` meets its contract.
 use mir.Syntax.{w64}
 use mir.Facts.{to_z-of_z}
-use borrow.Author.Rules.{rules}
 use Rattle.station.proofs.outcomes.finish.Goals as goal
 
 pub decode-number-requires : goal.decode-number-requires

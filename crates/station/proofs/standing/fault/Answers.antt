@@ -1,7 +1,6 @@
 -- `station::standing::fault` meets its contract: each test that led to a return decides one choice of `fault_of`.
 use mathlib.Core.Path.{◌∙◌, sym}
 use borrow.Author.Tests.{lt-ltb, le-ltb}
-use borrow.Author.Rules.{rules}
 use Rattle.station.specs.Standing.{fault_of}
 use Rattle.station.proofs.Laws.{stops_first, stops_second, stops-third, goes_on, sound-tables}
 use Rattle.station.proofs.standing.fault.Goals as goal

@@ -1,7 +1,6 @@
 -- `station::standing::is_allowed` meets its contract.
 use mathlib.Core.Path.{◌∙◌, sym, refl}
 use native.Mathlib.Omega.{arith}
-use borrow.Author.Rules.{rules}
 use Rattle.station.specs.Standing.{allowed}
 use Rattle.station.proofs.Laws.{second-decides, due-variable}
 use Rattle.logic.proofs.Tests.{first-fails}

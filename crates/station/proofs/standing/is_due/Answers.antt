@@ -2,7 +2,6 @@
 use mathlib.Core.Path.{sym, ◌∙◌}
 use native.Mathlib.Omega.{arith}
 use borrow.Author.Tests.{lt-ltb, le-ltb}
-use borrow.Author.Rules.{rules}
 use Rattle.station.specs.Standing.{due}
 use Rattle.logic.proofs.Tests.{first-fails, second-fails, third-decides}
 use Rattle.station.proofs.standing.is_due.Goals as goal

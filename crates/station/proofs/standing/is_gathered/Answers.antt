@@ -1,7 +1,6 @@
 -- `station::standing::is_gathered` meets its contract.
 use mathlib.Core.Path.{◌∙◌, refl}
 use native.Mathlib.Omega.{arith}
-use borrow.Author.Rules.{rules}
 use Rattle.station.specs.Standing.{gathered_so}
 use Rattle.station.proofs.Laws.{assembled-same, usable_same}
 use Rattle.station.proofs.standing.is_gathered.Goals as goal

@@ -1,7 +1,6 @@
 -- `station::variable::access_count` meets its contract.
 use mathlib.Core.Path.{sym, ◌∙◌, ap, subst}
 use lib.ListN.{length}
-use borrow.Author.Rules.{rules}
 use Rattle.wiring.specs.declared.BitList.{BitList}
 use Rattle.wiring.specs.Pieces.{Usable}
 use Rattle.wiring.specs.Order.{access_order}

@@ -1,5 +1,4 @@
 -- `station::variable::has_part` meets its contract.
-use borrow.Author.Rules.{rules}
 use Rattle.station.proofs.variable.has_part.Goals as goal
 
 pub returns : goal.returns

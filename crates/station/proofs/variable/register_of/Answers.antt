@@ -1,7 +1,6 @@
 -- `station::variable::register_of` meets its contract.
 use mathlib.Core.Path.{sym, ◌∙◌, ap, subst}
 use lib.ListN.{get_or}
-use borrow.Author.Rules.{rules}
 use Rattle.wiring.specs.declared.BitList.{BitList}
 use Rattle.wiring.specs.Pieces.{Usable}
 use Rattle.wiring.specs.Order.{access_order}
