@@ -1,7 +1,6 @@
 -- `lines::refused_line` meets its contract.
 use Rattle.lines.specs.Lines.{line_of}
 use Rattle.lines.proofs.LineLaws.{put_both}
-use borrow.Author.Rules.{rules}
 use Rattle.lines.proofs.refused_line.Goals as goal
 
 pub returns : goal.returns

@@ -2,7 +2,6 @@
 use mathlib.Core.Path.{sym, ap}
 use Rattle.lines.proofs.LineLaws.{put_as}
 use Rattle.lines.specs.Lines.{line_of}
-use borrow.Author.Rules.{rules}
 use Rattle.lines.proofs.verdict_line.Goals as goal
 
 pub returns-in-Accepted : goal.returns-in-Accepted

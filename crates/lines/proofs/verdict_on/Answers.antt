@@ -2,7 +2,6 @@
 use lib.ListN.{length-replicate}
 use Prim.Native.Nat.{ℕ}
 use Rattle.lines.proofs.LineLaws.{verdict-alone}
-use borrow.Author.Rules.{rules}
 use Rattle.lines.proofs.verdict_on.Goals as goal
 
 pub returns : goal.returns

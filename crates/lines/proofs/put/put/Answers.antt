@@ -1,7 +1,6 @@
 -- `lines::put::put` meets its contract.
 use mathlib.Core.Path.{sym}
 use lib.Seq.{set_out}
-use borrow.Author.Rules.{rules}
 use Rattle.lines.proofs.put.put.Goals as goal
 
 pub returns-else-at-out : goal.returns-else-at-out

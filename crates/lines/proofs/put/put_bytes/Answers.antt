@@ -1,9 +1,6 @@
 -- `lines::put::put_bytes` meets its contract.
-use Prim.Native.Nat.{◌-◌}
 use native.Mathlib.Omega.{arith}
-use borrow.Author.Rules.{rules}
-use lib.ListN.{length}
-use Rattle.lines.proofs.LineLaws.{Putting, putting-none, putting-more, putting-all}
+use Rattle.lines.proofs.LineLaws.{putting-none, putting-more, putting-all}
 use Rattle.lines.proofs.put.put_bytes.Goals as goal
 
 pub loop-k-init : goal.loop-k-init

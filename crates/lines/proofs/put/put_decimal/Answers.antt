@@ -1,7 +1,6 @@
 -- `lines::put::put_decimal` meets its contract.
 use mathlib.Core.Path.{◌∙◌}
 use Rattle.lines.proofs.LineLaws.{put_as, part_end}
-use borrow.Author.Rules.{rules}
 use Rattle.lines.proofs.put.put_decimal.Goals as goal
 
 pub returns : goal.returns

@@ -2,7 +2,6 @@
 use native.Mathlib.Omega.{arith}
 use Rattle.lines.proofs.LineLaws.{put_both, decimal-short}
 use Rattle.lines.specs.Lines.{numbered}
-use borrow.Author.Rules.{rules}
 use Rattle.lines.proofs.put.put_number.Goals as goal
 
 pub returns : goal.returns

@@ -1,7 +1,6 @@
 -- `lines::put::put_numbers` meets its contract.
 use native.Mathlib.Omega.{arith}
 use Rattle.lines.proofs.LineLaws.{put_both}
-use borrow.Author.Rules.{rules}
 use Rattle.lines.proofs.put.put_numbers.Goals as goal
 
 pub returns : goal.returns

@@ -1,9 +1,7 @@
 -- `lines::put::spell` meets its contract.
 use native.Mathlib.Omega.{arith}
-use borrow.Author.Rules.{rules}
-use mathlib.Core.Path.{◌≡◌, refl, ◌∙◌}
-use lib.ListN.{length}
-use Rattle.lines.proofs.LineLaws.{Spelling, spelling-none, spelling-more, spelling-all}
+use mathlib.Core.Path.{refl, ◌∙◌}
+use Rattle.lines.proofs.LineLaws.{spelling-none, spelling-more, spelling-all}
 use Rattle.lines.proofs.put.spell.Goals as goal
 
 pub loop-rest-init : goal.loop-rest-init

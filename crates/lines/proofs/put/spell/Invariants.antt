@@ -1,9 +1,7 @@
 -- `lines::put::spell` meets its contract.
-use native.Mathlib.Omega.{arith}
-use borrow.Author.Rules.{rules}
-use mathlib.Core.Path.{◌≡◌, refl, ◌∙◌}
+use mathlib.Core.Path.{◌≡◌}
 use lib.ListN.{length}
-use Rattle.lines.proofs.LineLaws.{Spelling, spelling-none, spelling-more, spelling-all}
+use Rattle.lines.proofs.LineLaws.{Spelling}
 use Rattle.lines.proofs.put.spell.Given as goal
 
 abbrev pub invariant-loop-rest : goal.invariant-loop-rest
