@@ -1,11 +1,8 @@
 -- `details::broken::first_bare` meets its contract.
-use borrow.Author.Rules.{rules}
-use Prim.Native.Nat.{◌-◌, ◌≤◌}
 use native.Mathlib.Omega.{arith}
-use mathlib.Core.Path.{◌≡◌, refl, sym, ◌∙◌}
-use Rattle.tables.specs.Every.{first_of}
+use mathlib.Core.Path.{refl, sym, ◌∙◌}
 use Rattle.tables.proofs.Laws.{first-none, first_more, first-stop, first-end}
-use Rattle.details.specs.Broken.{bare, first_bare}
+use Rattle.details.specs.Broken.{first_bare}
 use Rattle.details.proofs.broken.first_bare.Goals as goal
 
 pub loop-b-init : goal.loop-b-init

@@ -1,11 +1,8 @@
 -- `details::broken::first_bare` meets its contract.
-use borrow.Author.Rules.{rules}
 use Prim.Native.Nat.{◌-◌, ◌≤◌}
-use native.Mathlib.Omega.{arith}
-use mathlib.Core.Path.{◌≡◌, refl, sym, ◌∙◌}
+use mathlib.Core.Path.{◌≡◌}
 use Rattle.tables.specs.Every.{first_of}
-use Rattle.tables.proofs.Laws.{first-none, first_more, first-stop, first-end}
-use Rattle.details.specs.Broken.{bare, first_bare}
+use Rattle.details.specs.Broken.{bare}
 use Rattle.details.proofs.broken.first_bare.Given as goal
 
 abbrev pub invariant-loop-b : goal.invariant-loop-b

@@ -3,7 +3,6 @@ use mathlib.Core.Path.{ap, ap₂, ◌∙◌}
 use mathlib.Core.Bool.{◌&&◌, not}
 use lib.Dec.{ltb}
 use Rattle.bits.specs.Bits.{bit}
-use borrow.Author.Rules.{rules}
 use Rattle.details.proofs.broken.is_bare.Goals as goal
 
 pub returns : goal.returns

@@ -2,7 +2,6 @@
 use Prim.Native.Nat.{ℕ}
 use mathlib.Core.Path.{ap₂, ◌∙◌}
 use Rattle.details.specs.Entries.{alike}
-use borrow.Author.Rules.{rules}
 use Rattle.details.proofs.entries.alike_parts.Goals as goal
 
 pub returns : goal.returns

@@ -1,13 +1,9 @@
 -- `details::entries::alike_words` meets its contract.
-use borrow.Author.Rules.{rules}
 use Prim.Native.Nat.{◌+◌, ◌-◌, ◌≤◌}
-use native.Mathlib.Omega.{arith}
-use mathlib.Core.Path.{◌≡◌, sym, ap₂}
+use mathlib.Core.Path.{◌≡◌}
 use lib.Dec.{eqb}
 use lib.ListN.{get_or}
 use Rattle.tables.specs.Every.{every}
-use Rattle.tables.proofs.Laws.{every-none, gathers, gathered}
-use Rattle.details.specs.Entries.{alike}
 use Rattle.details.proofs.entries.alike_words.Given as goal
 
 abbrev pub invariant-loop-k : goal.invariant-loop-k

@@ -1,6 +1,5 @@
 use mathlib.Core.Path.{ap, ◌∙◌}
 use Rattle.bits.specs.Bits.{bit}
-use borrow.Author.Rules.{rules}
 use Rattle.details.proofs.entries.mask_bit.Goals as goal
 
 pub returns : goal.returns

@@ -1,7 +1,6 @@
 -- `details::entries::name_in` meets its contract.
 use mathlib.Core.Path.{ap₂, ◌∙◌}
 use Rattle.rules.specs.Names.{name_of}
-use borrow.Author.Rules.{rules}
 use Rattle.details.proofs.entries.name_in.Goals as goal
 
 pub returns : goal.returns

@@ -1,7 +1,6 @@
 -- `details::entries::part_from` meets its contract.
 use Rattle.details.proofs.HolderLaws.{read-start, write-start}
 use native.Mathlib.Omega.{arith}
-use borrow.Author.Rules.{rules}
 use Rattle.details.proofs.entries.part_from.Goals as goal
 
 pub returns-in-Read : goal.returns-in-Read

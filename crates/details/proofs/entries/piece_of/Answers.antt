@@ -3,7 +3,6 @@ use Prim.Native.Nat.{ℕ, ◌+◌, ◌*◌}
 use mathlib.Core.Path.{ap, ◌∙◌}
 use Rattle.tables.specs.Tables.{piece_in, piece_at}
 use Rattle.details.proofs.HolderLaws.{piece-made}
-use borrow.Author.Rules.{rules}
 use Rattle.details.proofs.entries.piece_of.Goals as goal
 
 pub returns : goal.returns

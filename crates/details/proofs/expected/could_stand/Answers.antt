@@ -2,7 +2,6 @@
 use Prim.Native.Nat.{ℕ}
 use lib.ListN.{length-replicate}
 use Rattle.details.proofs.ExpectedLaws.{text-long, word-long, tried}
-use borrow.Author.Rules.{rules}
 use Rattle.details.proofs.expected.could_stand.Goals as goal
 
 pub returns-then-before-gt8192 : goal.returns-then-before-gt8192

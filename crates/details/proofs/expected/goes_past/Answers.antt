@@ -2,7 +2,6 @@
 use mathlib.Core.Path.{sym, ap}
 use Rattle.syntax.specs.declared.reader.Step.{Step}
 use Rattle.details.specs.Expected.{goes_past}
-use borrow.Author.Rules.{rules}
 use Rattle.details.proofs.expected.goes_past.Goals as goal
 
 pub returns-in-Refused : goal.returns-in-Refused

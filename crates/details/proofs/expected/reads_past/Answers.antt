@@ -5,7 +5,6 @@ use mathlib.Core.List.{List}
 use Rattle.syntax.specs.declared.text.Outline.{Outline}
 use Rattle.syntax.specs.Text.{outlined, reading}
 use Rattle.details.specs.Expected.{goes_past}
-use borrow.Author.Rules.{rules}
 use Rattle.details.proofs.expected.reads_past.Goals as goal
 
 pub returns : goal.returns

@@ -1,13 +1,8 @@
 -- `details::holders::holds_bit` meets its contract.
-use borrow.Author.Rules.{rules}
-use Prim.Native.Nat.{ℕ, ◌+◌, ◌-◌, ◌≤◌}
-use native.Mathlib.Omega.{arith}
-use mathlib.Core.Path.{◌≡◌, ap, ◌∙◌}
-use lib.ListN.{get_or}
+use Prim.Native.Nat.{◌-◌, ◌≤◌}
+use mathlib.Core.Path.{◌≡◌}
 use Rattle.tables.specs.Marks.{has}
 use Rattle.tables.specs.Tables.{bits_to, variable_part_in}
-use Rattle.tables.proofs.MarkLaws.{at_count}
-use Rattle.details.proofs.HolderLaws.{joined-start, has_more}
 use Rattle.details.proofs.holders.holds_bit.Given as goal
 
 abbrev pub invariant-loop-k : goal.invariant-loop-k

@@ -2,7 +2,6 @@
 use mathlib.Core.Path.{ap, ◌∙◌}
 use Rattle.tables.specs.declared.Piece.{Piece}
 use Rattle.details.specs.Holders.{mentioned_below}
-use borrow.Author.Rules.{rules}
 use Rattle.details.proofs.holders.mentioned_before.Goals as goal
 
 pub returns : goal.returns

@@ -1,8 +1,6 @@
 -- `details::holders::mentioned_below` meets its contract.
-use borrow.Author.Rules.{rules}
-use Prim.Native.Nat.{◌-◌, ◌≤◌}
 use native.Mathlib.Omega.{arith}
-use mathlib.Core.Path.{◌≡◌, refl, ap}
+use mathlib.Core.Path.{refl, ap}
 use Rattle.tables.specs.declared.Piece.{Piece}
 use Rattle.tables.specs.Marks.{has}
 use Rattle.tables.proofs.MarkLaws.{at_count}

@@ -1,13 +1,7 @@
 -- `details::holders::mentioned_below` meets its contract.
-use borrow.Author.Rules.{rules}
 use Prim.Native.Nat.{◌-◌, ◌≤◌}
-use native.Mathlib.Omega.{arith}
-use mathlib.Core.Path.{◌≡◌, refl, ap}
-use Rattle.tables.specs.declared.Piece.{Piece}
-use Rattle.tables.specs.Marks.{has}
-use Rattle.tables.proofs.MarkLaws.{at_count}
+use mathlib.Core.Path.{◌≡◌}
 use Rattle.details.specs.Holders.{mentioned_below}
-use Rattle.details.proofs.HolderLaws.{joined-start, has_more, has-single}
 use Rattle.details.proofs.holders.mentioned_below.Given as goal
 
 abbrev pub invariant-loop-j : goal.invariant-loop-j

@@ -1,6 +1,5 @@
 -- `details::holders::piece_holds` meets its contract.
 use Rattle.details.proofs.HolderLaws.{piece-has}
-use borrow.Author.Rules.{rules}
 use Rattle.details.proofs.holders.piece_holds.Goals as goal
 
 pub returns : goal.returns

@@ -1,6 +1,5 @@
 -- `details::holders::piece_size` meets its contract.
 use Rattle.details.proofs.HolderLaws.{piece_size}
-use borrow.Author.Rules.{rules}
 use Rattle.details.proofs.holders.piece_size.Goals as goal
 
 pub returns : goal.returns

@@ -3,7 +3,6 @@ use Rattle.details.proofs.HolderLaws.{piece_weight}
 use mathlib.Core.Path.{ap, ◌∙◌}
 use Prim.Native.Nat.{ℕ}
 use mathlib.Core.Bool.{cond}
-use borrow.Author.Rules.{rules}
 use Rattle.details.proofs.holders.piece_weight.Goals as goal
 
 pub returns : goal.returns

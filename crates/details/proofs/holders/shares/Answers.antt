@@ -1,5 +1,4 @@
 -- `details::holders::shares` meets its contract.
-use borrow.Author.Rules.{rules}
 use mathlib.Core.Path.{sym, ap, ap₂, ◌∙◌}
 use mathlib.Core.Bool.{◌&&◌, ◌||◌}
 use Rattle.details.specs.declared.holders.Shared.{Shared}

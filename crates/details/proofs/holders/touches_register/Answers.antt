@@ -4,7 +4,6 @@ use mathlib.Core.Path.{ap, ◌∙◌}
 use Rattle.tables.specs.Marks.{has}
 use Rattle.tables.specs.Tables.{mentioned_to, variable_part_of}
 use Rattle.tables.specs.View.{part_no}
-use borrow.Author.Rules.{rules}
 use Rattle.details.proofs.holders.touches_register.Goals as goal
 
 pub returns : goal.returns

@@ -1,14 +1,9 @@
 -- `details::holders::weight_in` meets its contract.
-use borrow.Author.Rules.{rules}
-use Prim.Native.Nat.{ℕ, ◌+◌, ◌-◌, ◌*◌, ◌≤◌}
-use native.Mathlib.Omega.{arith}
-use mathlib.Core.Path.{◌≡◌, ap, ◌∙◌}
-use lib.ListN.{get_or}
+use Prim.Native.Nat.{◌-◌, ◌*◌, ◌≤◌}
+use mathlib.Core.Path.{◌≡◌}
 use Rattle.tables.specs.Marks.{has}
 use Rattle.tables.specs.Tables.{bits_to, variable_part_in}
-use Rattle.tables.proofs.MarkLaws.{at_count}
 use Rattle.details.specs.Holders.{behind}
-use Rattle.details.proofs.HolderLaws.{joined-start, has_more, behind_more, own-few, chosen-few}
 use Rattle.details.proofs.holders.weight_in.Given as goal
 
 abbrev pub invariant-loop-k : goal.invariant-loop-k

@@ -1,6 +1,5 @@
 -- `details::judged::judge_all` meets its contract.
 use Rattle.details.proofs.PlaceLaws.{state-judged}
-use borrow.Author.Rules.{rules}
 use Rattle.details.proofs.judged.judge_all.Goals as goal
 
 pub returns : goal.returns

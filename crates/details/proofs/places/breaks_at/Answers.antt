@@ -3,7 +3,6 @@ use Prim.Native.Nat.{ℕ}
 use mathlib.Core.Path.{sym, ap}
 use lib.Dec.{eqb}
 use lib.ListN.{get_or-eq_default}
-use borrow.Author.Rules.{rules}
 use Rattle.details.proofs.places.breaks_at.Goals as goal
 
 pub returns-else-place-text : goal.returns-else-place-text

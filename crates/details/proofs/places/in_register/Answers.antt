@@ -1,5 +1,4 @@
 -- `details::places::in_register` meets its contract.
-use borrow.Author.Rules.{rules}
 use Prim.Native.Nat.{ℕ}
 use mathlib.Core.Path.{ap, ◌∙◌}
 use lib.Dec.{eqb}

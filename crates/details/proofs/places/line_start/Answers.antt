@@ -1,9 +1,6 @@
 -- `details::places::line_start` meets its contract.
-use borrow.Author.Rules.{rules}
-use Prim.Native.Nat.{◌≤◌}
 use native.Mathlib.Omega.{arith}
-use mathlib.Core.Path.{◌≡◌, refl, sym, ◌∙◌}
-use Rattle.details.specs.Places.{line_start}
+use mathlib.Core.Path.{refl, sym, ◌∙◌}
 use Rattle.details.proofs.PlaceLaws.{start-here, start_back, start_none}
 use Rattle.details.proofs.places.line_start.Goals as goal
 

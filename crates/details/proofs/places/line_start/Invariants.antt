@@ -1,10 +1,7 @@
 -- `details::places::line_start` meets its contract.
-use borrow.Author.Rules.{rules}
 use Prim.Native.Nat.{◌≤◌}
-use native.Mathlib.Omega.{arith}
-use mathlib.Core.Path.{◌≡◌, refl, sym, ◌∙◌}
+use mathlib.Core.Path.{◌≡◌}
 use Rattle.details.specs.Places.{line_start}
-use Rattle.details.proofs.PlaceLaws.{start-here, start_back, start_none}
 use Rattle.details.proofs.places.line_start.Given as goal
 
 abbrev pub invariant-loop-at : goal.invariant-loop-at

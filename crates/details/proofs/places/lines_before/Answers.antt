@@ -1,8 +1,7 @@
 -- `details::places::lines_before` meets its contract.
-use borrow.Author.Rules.{rules}
-use Prim.Native.Nat.{ℕ, ◌+◌, ◌-◌, ◌≤◌}
+use Prim.Native.Nat.{ℕ, ◌+◌}
 use native.Mathlib.Omega.{arith}
-use mathlib.Core.Path.{◌≡◌, refl, ap, ◌∙◌}
+use mathlib.Core.Path.{refl, ap, ◌∙◌}
 use Rattle.details.specs.Places.{lines_before}
 use Rattle.details.proofs.PlaceLaws.{lines_none, lines_more, one_at_most}
 use Rattle.tables.proofs.MarkLaws.{at_count}

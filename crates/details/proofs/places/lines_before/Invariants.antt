@@ -1,11 +1,7 @@
 -- `details::places::lines_before` meets its contract.
-use borrow.Author.Rules.{rules}
-use Prim.Native.Nat.{ℕ, ◌+◌, ◌-◌, ◌≤◌}
-use native.Mathlib.Omega.{arith}
-use mathlib.Core.Path.{◌≡◌, refl, ap, ◌∙◌}
+use Prim.Native.Nat.{◌-◌, ◌≤◌}
+use mathlib.Core.Path.{◌≡◌}
 use Rattle.details.specs.Places.{lines_before}
-use Rattle.details.proofs.PlaceLaws.{lines_none, lines_more, one_at_most}
-use Rattle.tables.proofs.MarkLaws.{at_count}
 use Rattle.details.proofs.places.lines_before.Given as goal
 
 abbrev pub invariant-loop-at : goal.invariant-loop-at

@@ -4,7 +4,6 @@ use Rattle.rules.specs.Names.{name_of}
 use Rattle.token.specs.declared.Scanned.{Scanned}
 use Rattle.token.specs.Fair.{place_of}
 use Rattle.details.specs.Places.{extent_of}
-use borrow.Author.Rules.{rules}
 use Rattle.details.proofs.places.name_at.Goals as goal
 
 pub returns : goal.returns

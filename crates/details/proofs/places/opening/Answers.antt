@@ -1,7 +1,6 @@
 -- `details::places::opening` meets its contract.
-use borrow.Author.Rules.{rules}
-use mathlib.Core.Path.{◌≡◌, refl, sym, ◌∙◌}
-use Rattle.details.specs.Places.{opening_from, opening_of}
+use mathlib.Core.Path.{refl, sym, ◌∙◌}
+use Rattle.details.specs.Places.{opening_of}
 use Rattle.details.proofs.PlaceLaws.{opening-here, opening_on, opening-none}
 use Rattle.details.proofs.places.opening.Goals as goal
 

@@ -1,8 +1,6 @@
 -- `details::places::opening` meets its contract.
-use borrow.Author.Rules.{rules}
-use mathlib.Core.Path.{◌≡◌, refl, sym, ◌∙◌}
+use mathlib.Core.Path.{◌≡◌}
 use Rattle.details.specs.Places.{opening_from, opening_of}
-use Rattle.details.proofs.PlaceLaws.{opening-here, opening_on, opening-none}
 use Rattle.details.proofs.places.opening.Given as goal
 
 abbrev pub invariant-loop-room : goal.invariant-loop-room

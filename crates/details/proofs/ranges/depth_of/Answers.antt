@@ -1,6 +1,5 @@
 -- `details::ranges::depth_of` meets its contract.
 use borrow.Author.Tests.{eq-eqb, ne_eqb}
-use borrow.Author.Rules.{rules}
 use Rattle.details.proofs.ranges.depth_of.Goals as goal
 
 pub returns-then-kind-eq1 : goal.returns-then-kind-eq1

@@ -6,7 +6,6 @@ use native.Mathlib.Omega.{arith}
 use lib.Dec.{eqb}
 use lib.IntN.{pos, neg_ℤ, pred_ℤ, nat_abs}
 use lib.Pow.{pow_pos}
-use borrow.Author.Rules.{rules}
 use Rattle.bits.specs.Values.{limit_of, least}
 use Rattle.details.proofs.ranges.greatest_of.Goals as goal
 

@@ -3,7 +3,6 @@ use Prim.Native.Nat.{ℕ, ◌+◌}
 use mathlib.Core.Path.{ap₂}
 use mathlib.Core.Bool.{◌&&◌}
 use lib.Dec.{eqb}
-use borrow.Author.Rules.{rules}
 use Rattle.details.proofs.rows.are_together.Goals as goal
 
 pub returns : goal.returns

@@ -1,13 +1,10 @@
 -- `details::rows::run_below` meets its contract.
 use Rattle.details.proofs.HolderLaws.{first-zero}
-use borrow.Author.Rules.{rules}
-use Prim.Native.Nat.{◌-◌, ◌≤◌}
 use native.Mathlib.Omega.{arith}
-use mathlib.Core.Path.{◌≡◌, refl, sym, ap, ◌∙◌}
+use mathlib.Core.Path.{refl, sym, ap, ◌∙◌}
 use mathlib.Core.Bool.{not}
-use Rattle.tables.specs.Every.{first_of}
 use Rattle.tables.proofs.Laws.{first-none, first_more, first-stop, first-end}
-use Rattle.details.specs.Rows.{together, run_below}
+use Rattle.details.specs.Rows.{run_below}
 use Rattle.details.proofs.rows.run_below.Goals as goal
 
 pub returns-then-left-eq0 : goal.returns-then-left-eq0

@@ -1,13 +1,9 @@
 -- `details::rows::run_below` meets its contract.
-use Rattle.details.proofs.HolderLaws.{first-zero}
-use borrow.Author.Rules.{rules}
 use Prim.Native.Nat.{◌-◌, ◌≤◌}
-use native.Mathlib.Omega.{arith}
-use mathlib.Core.Path.{◌≡◌, refl, sym, ap, ◌∙◌}
+use mathlib.Core.Path.{◌≡◌}
 use mathlib.Core.Bool.{not}
 use Rattle.tables.specs.Every.{first_of}
-use Rattle.tables.proofs.Laws.{first-none, first_more, first-stop, first-end}
-use Rattle.details.specs.Rows.{together, run_below}
+use Rattle.details.specs.Rows.{together}
 use Rattle.details.proofs.rows.run_below.Given as goal
 
 abbrev pub invariant-loop-k : goal.invariant-loop-k

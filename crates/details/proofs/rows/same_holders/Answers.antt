@@ -1,11 +1,8 @@
 -- `details::rows::same_holders` meets its contract.
-use borrow.Author.Rules.{rules}
-use Prim.Native.Nat.{◌-◌, ◌≤◌}
 use native.Mathlib.Omega.{arith}
-use mathlib.Core.Path.{◌≡◌, sym}
-use Rattle.tables.specs.Every.{every}
+use mathlib.Core.Path.{sym}
 use Rattle.tables.proofs.Laws.{every-none, gathers, gathered}
-use Rattle.details.specs.Rows.{same_bit, same_holders}
+use Rattle.details.specs.Rows.{same_holders}
 use Rattle.details.proofs.rows.same_holders.Goals as goal
 
 pub loop-b-init : goal.loop-b-init

@@ -1,5 +1,4 @@
 -- `details::rows::same_register` meets its contract.
-use borrow.Author.Rules.{rules}
 use mathlib.Core.Path.{ap₂}
 use mathlib.Core.Bool.{◌&&◌}
 use Rattle.details.proofs.rows.same_register.Goals as goal

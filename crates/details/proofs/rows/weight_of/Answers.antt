@@ -2,7 +2,6 @@
 use Prim.Native.Nat.{◌+◌, ◌*◌}
 use mathlib.Core.Path.{ap, ◌∙◌}
 use Rattle.details.specs.Holders.{weight_in}
-use borrow.Author.Rules.{rules}
 use Rattle.details.proofs.rows.weight_of.Goals as goal
 
 pub returns : goal.returns

@@ -1,4 +1,3 @@
-use borrow.Author.Rules.{rules}
 use Rattle.details.proofs.search.could_tell.Goals as goal
 
 pub returns : goal.returns

@@ -1,9 +1,6 @@
 -- `details::search::first_in` meets its contract.
-use borrow.Author.Rules.{rules}
-use Prim.Native.Nat.{◌-◌, ◌≤◌}
 use native.Mathlib.Omega.{arith}
-use mathlib.Core.Path.{◌≡◌, sym, ◌∙◌}
-use Rattle.tables.specs.Every.{first_of}
+use mathlib.Core.Path.{sym, ◌∙◌}
 use Rattle.tables.proofs.Laws.{first-none, first_more, first-stop, first-end}
 use Rattle.details.specs.Search.{passes, first_in}
 use Rattle.details.proofs.search.first_in.Goals as goal

@@ -1,6 +1,5 @@
 use mathlib.Core.Path.{ap₂}
 use mathlib.Core.Bool.{Bool, ◌&&◌, not}
-use borrow.Author.Rules.{rules}
 use Rattle.details.proofs.search.is_star.Goals as goal
 
 pub returns : goal.returns

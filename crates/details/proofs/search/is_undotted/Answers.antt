@@ -3,7 +3,6 @@ use mathlib.Core.Path.{ap, ◌∙◌}
 use mathlib.Core.Bool.{Bool, ◌&&◌, not}
 use lib.Dec.{leb}
 use Rattle.bits.specs.Bits.{bit}
-use borrow.Author.Rules.{rules}
 use Rattle.details.proofs.search.is_undotted.Goals as goal
 
 pub returns : goal.returns

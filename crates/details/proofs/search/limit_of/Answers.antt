@@ -1,7 +1,6 @@
 -- `details::search::limit_of` meets its contract.
 use mathlib.Core.Path.{sym, ap, ◌∙◌}
 use Rattle.details.specs.Search.{limit}
-use borrow.Author.Rules.{rules}
 use Rattle.details.proofs.search.limit_of.Goals as goal
 
 pub returns-in-Misfit : goal.returns-in-Misfit

@@ -3,7 +3,6 @@ use Prim.Native.Nat.{ℕ}
 use mathlib.Core.Path.{ap₂}
 use mathlib.Core.Bool.{◌&&◌, not}
 use lib.Dec.{leb}
-use borrow.Author.Rules.{rules}
 use Rattle.details.proofs.search.misfits.Goals as goal
 
 pub returns : goal.returns

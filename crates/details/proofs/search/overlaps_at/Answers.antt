@@ -1,7 +1,6 @@
 -- `details::search::overlaps_at` meets its contract.
 use mathlib.Core.Path.{ap₂, ◌∙◌}
 use Rattle.tables.specs.Scan.{overlap}
-use borrow.Author.Rules.{rules}
 use Rattle.details.proofs.search.overlaps_at.Goals as goal
 
 pub returns : goal.returns

@@ -2,7 +2,6 @@
 use mathlib.Core.Path.{ap₂}
 use mathlib.Core.Bool.{◌&&◌}
 use lib.Dec.{eqb}
-use borrow.Author.Rules.{rules}
 use Rattle.details.proofs.search.serves_with.Goals as goal
 
 pub returns : goal.returns
