@@ -5,7 +5,6 @@ use mathlib.Core.Path.{◌≡◌, refl, sym, ap, ◌∙◌}
 use mathlib.Core.Bool.{Bool, true, false, cond, ◌&&◌, ◌||◌}
 use mathlib.Core.Logic.{◌⊎◌, inl, inr}
 use lib.IntN.{ℤ}
-use lib.Ieee.{Float}
 use mathlib.Core.List.{List, []}
 use Rattle.logic.proofs.Tests.{and_left}
 use Rattle.units.specs.declared.Calibration.{Calibration}

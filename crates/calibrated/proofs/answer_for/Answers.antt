@@ -1,4 +1,3 @@
-use borrow.Author.Rules.{rules}
 use Rattle.calibrated.proofs.answer_for.Goals as goal
 
 pub returns-in-Idle : goal.returns-in-Idle

@@ -1,4 +1,3 @@
-use borrow.Author.Rules.{rules}
 use Rattle.tables.specs.View.{sound}
 use Rattle.station.specs.Standing.{tables_of}
 use Rattle.calibrated.proofs.ReadingLaws.{read-begun, without-units}

@@ -1,7 +1,6 @@
 use Rattle.tables.specs.View.{sound}
 use Rattle.station.specs.Standing.{tables_of}
 use Rattle.calibrated.proofs.ReadingLaws.{confirmed-met, write-refused}
-use borrow.Author.Rules.{rules}
 use Rattle.calibrated.proofs.confirm_in_units.Goals as goal
 
 pub returns-then-is_write-units : goal.returns-then-is_write-units

@@ -3,7 +3,6 @@ use mir.Facts.{to_z-of_z}
 use Rattle.units.specs.declared.Answer.{Answer as Converted}
 use Rattle.calibrated.specs.Readings.{read_as}
 use Rattle.calibrated.proofs.ReadingLaws.{done-as}
-use borrow.Author.Rules.{rules}
 use Rattle.calibrated.proofs.done_in.Goals as goal
 
 pub returns-in-Value : goal.returns-in-Value

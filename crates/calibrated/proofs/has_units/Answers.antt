@@ -1,4 +1,3 @@
-use borrow.Author.Rules.{rules}
 use Rattle.calibrated.specs.Readings.{has_units}
 use Rattle.calibrated.proofs.has_units.Goals as goal
 

@@ -1,4 +1,3 @@
-use borrow.Author.Rules.{rules}
 use Rattle.calibrated.proofs.is_early.Goals as goal
 
 pub returns-in-Refused : goal.returns-in-Refused

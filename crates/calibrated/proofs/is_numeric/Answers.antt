@@ -1,6 +1,5 @@
 use native.Mathlib.Omega.{arith}
 use Rattle.calibrated.proofs.ReadingLaws.{not_there, there}
-use borrow.Author.Rules.{rules}
 use Rattle.calibrated.proofs.is_numeric.Goals as goal
 
 pub returns-then-count-v : goal.returns-then-count-v

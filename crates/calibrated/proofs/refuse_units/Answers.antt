@@ -2,7 +2,6 @@ use Rattle.tables.specs.View.{sound}
 use Rattle.station.specs.Standing.{tables_of}
 use Rattle.station.specs.Promise.{lent}
 use Rattle.calibrated.proofs.ReadingLaws.{early-refused, late-refused}
-use borrow.Author.Rules.{rules}
 use Rattle.calibrated.proofs.refuse_units.Goals as goal
 
 pub returns-then-is_early : goal.returns-then-is_early

@@ -1,4 +1,3 @@
-use borrow.Author.Rules.{rules}
 use Rattle.calibrated.proofs.told_for.Goals as goal
 
 pub returns-then-is_refused-units : goal.returns-then-is_refused-units

@@ -1,4 +1,3 @@
-use borrow.Author.Rules.{rules}
 use Rattle.calibrated.proofs.units_for.Goals as goal
 
 pub returns-in-Reading : goal.returns-in-Reading
