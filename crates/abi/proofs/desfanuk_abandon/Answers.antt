@@ -6,7 +6,6 @@ use Rattle.station.specs.Calls.{abandon}
 use Rattle.station.specs.Promise.{lent}
 use Rattle.abi.proofs.SmallLaws.{abandon-small}
 use Rattle.abi.proofs.Telling.{tells, small_by}
-use borrow.Author.Rules.{rules}
 use Rattle.abi.proofs.desfanuk_abandon.Goals as goal
 
 pub tell-requires : goal.tell-requires

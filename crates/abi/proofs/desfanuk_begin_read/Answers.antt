@@ -7,7 +7,6 @@ use Rattle.station.specs.Calls.{begin_read}
 use Rattle.station.specs.Promise.{lent}
 use Rattle.abi.proofs.SmallLaws.{begin_read-small}
 use Rattle.abi.proofs.Telling.{tells, small_by}
-use borrow.Author.Rules.{rules}
 use Rattle.abi.proofs.desfanuk_begin_read.Goals as goal
 
 pub tell-requires : goal.tell-requires

@@ -6,7 +6,6 @@ use Rattle.station.specs.Promise.{lent}
 use Rattle.calibrated.specs.Readings.{begin_in_units}
 use Rattle.abi.proofs.UnitLaws.{begin_in_units-small, tells-begun}
 use Rattle.abi.proofs.Telling.{small_by}
-use borrow.Author.Rules.{rules}
 use Rattle.abi.proofs.desfanuk_begin_read_in_units.Goals as goal
 
 pub tell-requires : goal.tell-requires

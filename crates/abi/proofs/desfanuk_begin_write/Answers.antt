@@ -8,7 +8,6 @@ use Rattle.station.specs.Calls.{begin_write}
 use Rattle.station.specs.Promise.{lent}
 use Rattle.abi.proofs.SmallLaws.{begin_write-small}
 use Rattle.abi.proofs.Telling.{tells, small_by}
-use borrow.Author.Rules.{rules}
 use Rattle.abi.proofs.desfanuk_begin_write.Goals as goal
 
 pub tell-requires : goal.tell-requires

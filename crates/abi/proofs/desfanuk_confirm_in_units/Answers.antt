@@ -5,7 +5,6 @@ use Rattle.station.specs.Standing.{tables_of}
 use Rattle.station.specs.Promise.{lent}
 use Rattle.calibrated.specs.Readings.{confirm_in_units}
 use Rattle.abi.proofs.UnitLaws.{confirm_in_units-small, tells-units, units-small_by}
-use borrow.Author.Rules.{rules}
 use Rattle.abi.proofs.desfanuk_confirm_in_units.Goals as goal
 
 pub tell_units-requires : goal.tell_units-requires

@@ -2,7 +2,6 @@ use Prim.Native.Nat.{ℕ}
 use Rattle.loader.specs.Load.{lent_as}
 use Rattle.pieces.specs.Pieces.{held_as, end_of}
 use Rattle.abi.proofs.ArrivingLaws.{tells-closed}
-use borrow.Author.Rules.{rules}
 use Rattle.abi.proofs.desfanuk_end_pieces.Goals as goal
 
 pub returns : goal.returns

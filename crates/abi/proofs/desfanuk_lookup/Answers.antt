@@ -9,7 +9,6 @@ use Rattle.rules.specs.declared.names.Found.{Found}
 use Rattle.rules.specs.Names.{variable_named}
 use Rattle.abi.specs.Loading.{Narrow, found_word}
 use Rattle.abi.proofs.LoadingLaws.{found-narrow, found-said}
-use borrow.Author.Rules.{rules}
 use Rattle.abi.proofs.desfanuk_lookup.Goals as goal
 
 -- an index found in a table of 32-bit words fits a word

@@ -6,7 +6,6 @@ use Rattle.station.specs.Calls.{opening}
 use Rattle.station.specs.Promise.{lent}
 use Rattle.abi.proofs.SmallLaws.{opening-small}
 use Rattle.abi.proofs.Telling.{tells, small_by}
-use borrow.Author.Rules.{rules}
 use Rattle.abi.proofs.desfanuk_open.Goals as goal
 
 pub tell-requires : goal.tell-requires

@@ -3,7 +3,6 @@ use mathlib.Core.Path.{ap, ◌∙◌}
 use mathlib.Core.Bool.{Bool, cond}
 use Prim.Native.Nat.{ℕ}
 use Rattle.tables.specs.View.{sound}
-use borrow.Author.Rules.{rules}
 use Rattle.abi.proofs.desfanuk_sound.Goals as goal
 
 pub returns : goal.returns

@@ -2,7 +2,6 @@ use Prim.Native.Nat.{ℕ}
 use Rattle.loader.specs.Load.{lent_as}
 use Rattle.pieces.specs.Pieces.{held_as, piece_of}
 use Rattle.abi.proofs.ArrivingLaws.{tells-took}
-use borrow.Author.Rules.{rules}
 use Rattle.abi.proofs.desfanuk_take_piece.Goals as goal
 
 pub returns : goal.returns

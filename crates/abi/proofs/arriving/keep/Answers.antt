@@ -1,7 +1,6 @@
 use mathlib.Core.Path.{refl}
 use mathlib.Core.List.{[]}
 use Rattle.abi.proofs.WordLaws.{written_none, written-more}
-use borrow.Author.Rules.{rules}
 use Rattle.abi.proofs.arriving.keep.Goals as goal
 
 pub returns : goal.returns

@@ -1,5 +1,4 @@
 use Rattle.abi.proofs.ArrivingLaws.{taken_none, taken-some}
-use borrow.Author.Rules.{rules}
 use Rattle.abi.proofs.arriving.taken_of.Goals as goal
 
 pub returns-then-words-lt1 : goal.returns-then-words-lt1

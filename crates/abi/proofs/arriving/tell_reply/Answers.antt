@@ -1,5 +1,4 @@
 use mathlib.Core.Path.{refl}
-use borrow.Author.Rules.{rules}
 use Rattle.abi.proofs.arriving.tell_reply.Goals as goal
 
 pub returns-in-More : goal.returns-in-More

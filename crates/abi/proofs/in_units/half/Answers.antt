@@ -1,6 +1,5 @@
 use native.Mathlib.Omega.{arith}
 use Rattle.bits.proofs.Signed.{natural-read}
-use borrow.Author.Rules.{rules}
 use Rattle.abi.proofs.in_units.half.Goals as goal
 
 pub returns : goal.returns

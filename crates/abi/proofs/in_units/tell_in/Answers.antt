@@ -2,7 +2,6 @@ use mathlib.Core.Path.{refl}
 use lib.IntN.{pos}
 use Rattle.abi.specs.InUnits.{unit_words}
 use Rattle.abi.proofs.WordLaws.{said, fields}
-use borrow.Author.Rules.{rules}
 use Rattle.abi.proofs.in_units.tell_in.Goals as goal
 
 pub tell_reading-requires : goal.tell_reading-requires

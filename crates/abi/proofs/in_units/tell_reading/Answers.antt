@@ -4,7 +4,6 @@ use Prim.Native.Nat.{ℕ, ◌/◌, ◌%◌}
 use lib.IntN.{pos}
 use Rattle.abi.specs.InUnits.{reading_words}
 use Rattle.abi.proofs.WordLaws.{said, fields}
-use borrow.Author.Rules.{rules}
 use Rattle.abi.proofs.in_units.tell_reading.Goals as goal
 
 pub returns : goal.returns

@@ -1,7 +1,6 @@
 use mathlib.Core.Path.{refl}
 use Rattle.abi.specs.InUnits.{operation_now}
 use Rattle.logic.proofs.Tests.{failed, passed}
-use borrow.Author.Rules.{rules}
 use Rattle.abi.proofs.in_units.tell_units.Goals as goal
 
 pub returns-then-not-is_left_in : goal.returns-then-not-is_left_in

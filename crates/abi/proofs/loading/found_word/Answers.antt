@@ -1,7 +1,6 @@
 -- `abi::loading::found_word` meets its contract: a case for each answer.
 use mathlib.Core.Path.{refl}
 use Rattle.abi.proofs.WordLaws.{said}
-use borrow.Author.Rules.{rules}
 use Rattle.abi.proofs.loading.found_word.Goals as goal
 
 pub signed-requires : goal.signed-requires

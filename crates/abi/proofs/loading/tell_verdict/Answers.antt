@@ -1,6 +1,5 @@
 -- `abi::loading::tell_verdict` meets its contract: a case for each verdict.
 use mathlib.Core.Path.{refl}
-use borrow.Author.Rules.{rules}
 use Rattle.abi.proofs.loading.tell_verdict.Goals as goal
 
 pub returns-in-Refused : goal.returns-in-Refused

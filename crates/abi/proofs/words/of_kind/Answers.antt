@@ -1,7 +1,6 @@
 -- `abi::words::of_kind` meets its contract: the tests in their order.
 use borrow.Author.Tests.{eq-eqb, ne_eqb}
 use Rattle.abi.specs.Words.{of_kind}
-use borrow.Author.Rules.{rules}
 use Rattle.abi.proofs.words.of_kind.Goals as goal
 
 pub returns-then-kind-eq0 : goal.returns-then-kind-eq0

@@ -2,7 +2,6 @@
 use mathlib.Core.Path.{sym}
 use borrow.Author.Tests.{lt-ltb, le-ltb}
 use Rattle.abi.specs.Words.{operation_of}
-use borrow.Author.Rules.{rules}
 use Rattle.abi.proofs.words.operation_of.Goals as goal
 
 pub returns-then-words-lt4 : goal.returns-then-words-lt4

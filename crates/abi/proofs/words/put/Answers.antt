@@ -1,7 +1,6 @@
 -- `abi::words::put` meets its contract: a store past the end is `set` there.
 use lib.Seq.{set_out}
 use mathlib.Core.Path.{sym}
-use borrow.Author.Rules.{rules}
 use Rattle.abi.proofs.words.put.Goals as goal
 
 pub returns-else-at-words : goal.returns-else-at-words

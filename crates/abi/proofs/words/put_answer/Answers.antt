@@ -2,7 +2,6 @@
 use mir.Facts.{to_z-of_z}
 use mathlib.Core.List.{[], ◌∷◌}
 use Rattle.abi.proofs.WordLaws.{written_none, written-more}
-use borrow.Author.Rules.{rules}
 use Rattle.abi.proofs.words.put_answer.Goals as goal
 
 pub returns : goal.returns

@@ -2,7 +2,6 @@
 use mathlib.Core.Path.{refl}
 use mathlib.Core.List.{[], ◌∷◌}
 use Rattle.abi.proofs.WordLaws.{written_none, written-more}
-use borrow.Author.Rules.{rules}
 use Rattle.abi.proofs.words.put_four.Goals as goal
 
 pub returns : goal.returns

@@ -1,7 +1,6 @@
 -- `abi::words::tell` meets its contract: the operation is told exactly where the answer does not leave it.
 use mathlib.Core.Path.{refl}
 use Rattle.abi.specs.Told.{operation_left}
-use borrow.Author.Rules.{rules}
 use Rattle.logic.proofs.Tests.{failed, passed}
 use Rattle.abi.proofs.words.tell.Goals as goal
 

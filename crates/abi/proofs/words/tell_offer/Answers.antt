@@ -3,7 +3,6 @@ use mathlib.Core.Path.{ap, ◌∙◌}
 use lib.IntN.{pos}
 use native.Mathlib.Omega.{arith}
 use Rattle.abi.proofs.WordLaws.{said, fields}
-use borrow.Author.Rules.{rules}
 use Rattle.abi.proofs.words.tell_offer.Goals as goal
 
 pub returns : goal.returns

@@ -1,5 +1,4 @@
 -- `abi::words::tell_operation` meets its contract: a case for each operation.
-use borrow.Author.Rules.{rules}
 use Rattle.abi.proofs.words.tell_operation.Goals as goal
 
 pub returns-in-Idle : goal.returns-in-Idle
