@@ -1,13 +1,7 @@
 use native.Mathlib.Omega.{arith}
-use mathlib.Core.Path.{◌∙◌}
 use Rattle.readings.specs.Records.{four_at}
-use borrow.Author.Rules.{rules}
-use Rattle.readings.proofs.four.Reads as reads
-use Rattle.readings.proofs.four.Lts as lts
-use Rattle.readings.proofs.byte.Reads as byte-Reads
 use Rattle.readings.proofs.four.Goals as goal
 
--- src/main.rt:50:1
 pub returns : goal.returns
 unfolding four_at
 returns c = record {
