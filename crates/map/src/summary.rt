@@ -97,8 +97,8 @@ fn show_part(
     write(out, b"\n")
 }
 
-// One line where both parts are alike.
-fn show_parts(
+// A line for each part that is there.
+fn show_each_part(
     out: &mut impl io::Write,
     text: &[u8],
     parameters: &[u32],
@@ -106,19 +106,6 @@ fn show_parts(
     variables: &[u32],
     v: u32,
 ) -> io::Result<()> {
-    if same_parts(variables, v) {
-        show_part(
-            out,
-            text,
-            parameters,
-            registers,
-            variables,
-            v,
-            Part::Read,
-            b"  r w  ",
-        )?;
-        return Ok(());
-    }
     if variable_has(variables, v, Part::Read) {
         show_part(
             out,
@@ -144,6 +131,31 @@ fn show_parts(
         )?;
     }
     Ok(())
+}
+
+// One line where both parts are alike.
+fn show_parts(
+    out: &mut impl io::Write,
+    text: &[u8],
+    parameters: &[u32],
+    registers: &[u32],
+    variables: &[u32],
+    v: u32,
+) -> io::Result<()> {
+    if same_parts(variables, v) {
+        show_part(
+            out,
+            text,
+            parameters,
+            registers,
+            variables,
+            v,
+            Part::Read,
+            b"  r w  ",
+        )
+    } else {
+        show_each_part(out, text, parameters, registers, variables, v)
+    }
 }
 
 pub fn show_variable(

@@ -12,6 +12,14 @@ use std::io;
 use wording::parts::Entry;
 use wording::write::{from_one, say, say_name, write};
 
+fn entry_place(table: &[u32], entry: Entry, i: u32) -> usize {
+    match entry {
+        Entry::Parameter => parameter_place(table, i),
+        Entry::Register => register_place(table, i),
+        Entry::Variable => variable_place(table, i),
+    }
+}
+
 fn show_entry_as(
     out: &mut impl io::Write,
     text: &[u8],
@@ -20,38 +28,13 @@ fn show_entry_as(
     name: &[u8],
     i: u32,
 ) -> io::Result<()> {
-    match entry {
-        Entry::Parameter => {
-            let line = from_one(lines_before(text, parameter_place(table, i)));
-            say(
-                out,
-                b"$ is a parameter, declared in line #\n",
-                line,
-                name,
-                b"",
-            )
-        }
-        Entry::Register => {
-            let line = from_one(lines_before(text, register_place(table, i)));
-            say(
-                out,
-                b"$ is a register, declared in line #\n",
-                line,
-                name,
-                b"",
-            )
-        }
-        Entry::Variable => {
-            let line = from_one(lines_before(text, variable_place(table, i)));
-            say(
-                out,
-                b"$ is a variable, declared in line #\n",
-                line,
-                name,
-                b"",
-            )
-        }
-    }
+    let line = from_one(lines_before(text, entry_place(table, entry, i)));
+    let words: &[u8] = match entry {
+        Entry::Parameter => b"$ is a parameter, declared in line #\n",
+        Entry::Register => b"$ is a register, declared in line #\n",
+        Entry::Variable => b"$ is a variable, declared in line #\n",
+    };
+    say(out, words, line, name, b"")
 }
 
 fn find_entry(text: &[u8], table: &[u32], entry: Entry, name: &[u8]) -> Found {
