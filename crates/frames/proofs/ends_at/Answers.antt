@@ -5,8 +5,8 @@ use Rattle.frames.proofs.ends_at.Goals as goal
 
 pub returns-then-at-input : goal.returns-then-at-input
 unfolding ends_at
-returns-then-at-input c = rw (lt-ltb _ _ c.if-at-input.true, ends_at)
+returns-then-at-input c = rw (ends_at, lt-ltb _ _ c.if-at-input.true)
 
 pub returns-else-at-input : goal.returns-else-at-input
 unfolding ends_at
-returns-else-at-input c = rw (le-ltb _ _ c.if-at-input.false, ends_at)
+returns-else-at-input c = rw (ends_at, le-ltb _ _ c.if-at-input.false)
