@@ -6,12 +6,14 @@ use mathlib.Core.Path.{◌≡◌, sym, ap, ◌∙◌}
 use lib.ListN.{length}
 use Rattle.token.specs.Fair.{goes_on_lem}
 use Rattle.token.proofs.Laws.{passes}
+use Rattle.tokens.proofs.show_tokens.Given.{Over}
 use Rattle.tokens.proofs.show_tokens.Goals as goal
 use Rattle.tokens.proofs.show_tokens.Goals.{Then-goes_on}
 
 -- the reader went forward, and not past the end
 ahead :
-    (c : Then-goes_on)
+    {g : Over}
+    (c : Then-goes_on g)
     → (c.loop-at.at < c.scan-found.result.next)
     × (c.scan-found.result.next ≤ length c.args.text.now)
 ahead c =
