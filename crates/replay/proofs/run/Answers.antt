@@ -1,9 +1,7 @@
 -- `replay::run` ends.
 use native.Mathlib.Omega.{arith}
 use borrow.Author.Rules.{rules}
-use mathlib.Core.Path.{◌≡◌, refl}
-use Prim.Native.Nat.{◌-◌}
-use lib.ListN.{length}
+use mathlib.Core.Path.{refl}
 use Rattle.frames.proofs.FrameLaws.{text-within}
 use Rattle.script.proofs.WordLaws.{line-within}
 use Rattle.replay.proofs.run.Goals as goal
@@ -21,7 +19,7 @@ pub slice_bounds-run_script-end : goal.slice_bounds-run_script-end
 slice_bounds-run_script-end g c = (text-within _ _ _ c.frame_at-frame.ensures c.in-Text.is).1
 
 pub loop-at-smaller-in-Text : goal.loop-at-smaller-in-Text
-loop-at-smaller-in-Text g c = omega (arith, c.loop-at-test.true, c.run_script-at.ensures, (text-within _ _ _ c.frame_at-frame.ensures c.in-Text.is).2)
+loop-at-smaller-in-Text g c = omega (arith, c.loop-at-test.true, c.in_ok-at-in-Text.ensures, (text-within _ _ _ c.frame_at-frame.ensures c.in-Text.is).2)
 
 pub loop-at-preserved-in-Text : goal.loop-at-preserved-in-Text
 loop-at-preserved-in-Text g c = (search rules, search rules, search rules, search rules, search rules)

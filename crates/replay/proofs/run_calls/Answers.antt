@@ -1,9 +1,7 @@
 -- `replay::run_calls` ends.
 use native.Mathlib.Omega.{arith}
 use borrow.Author.Rules.{rules}
-use mathlib.Core.Path.{◌≡◌, refl}
-use Prim.Native.Nat.{◌≤◌, ◌<◌, ◌+◌, ◌-◌, ◌^◌}
-use lib.ListN.{length}
+use mathlib.Core.Path.{refl}
 use Rattle.script.proofs.WordLaws.{line-within}
 use Rattle.replay.proofs.run_calls.Goals as goal
 
@@ -29,7 +27,7 @@ pub slice_bounds-hear-end : goal.slice_bounds-hear-end
 slice_bounds-hear-end g c = (line-within _ _ _ c.line_end-end.ensures c.loop-at-test.true).1
 
 pub overflow_add-at : goal.overflow_add-at
-overflow_add-at g c = let next : c.line_end-end.result + 1 < 2 ^ 64 = omega (arith, c.well-formed.0.1, (line-within _ _ _ c.line_end-end.ensures c.loop-at-test.true).1) in record { fits = next }
+overflow_add-at g c = record { fits = omega (arith, (line-within _ _ _ c.line_end-end.ensures c.loop-at-test.true).1) }
 
 pub loop-at-smaller : goal.loop-at-smaller
 loop-at-smaller g c = omega (arith, c.loop-at-test.true, (line-within _ _ _ c.line_end-end.ensures c.loop-at-test.true).0)

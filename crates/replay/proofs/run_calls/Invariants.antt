@@ -1,10 +1,7 @@
 -- `replay::run_calls` ends.
-use native.Mathlib.Omega.{arith}
-use borrow.Author.Rules.{rules}
-use mathlib.Core.Path.{◌≡◌, refl}
-use Prim.Native.Nat.{◌≤◌, ◌<◌, ◌+◌, ◌-◌, ◌^◌}
+use mathlib.Core.Path.{◌≡◌}
+use Prim.Native.Nat.{◌≤◌, ◌-◌}
 use lib.ListN.{length}
-use Rattle.script.proofs.WordLaws.{line-within}
 use Rattle.replay.proofs.run_calls.Given as goal
 
 abbrev pub invariant-loop-at : goal.invariant-loop-at

@@ -2,7 +2,6 @@
 use mathlib.Core.Path.{ap, ◌∙◌}
 use Rattle.script.specs.Numbers.{number_of}
 use Rattle.replay.proofs.CallLaws.{amount-all, amount-some}
-use borrow.Author.Rules.{rules}
 use Rattle.replay.proofs.call.amount.Goals as goal
 
 pub returns-then-is-is_bare : goal.returns-then-is-is_bare

@@ -1,7 +1,6 @@
 -- `replay::call::bare` meets its contract. Assumes nothing.
 use mathlib.Core.Path.{sym, ◌∙◌}
 use Rattle.replay.specs.Calls.{bare_of}
-use borrow.Author.Rules.{rules}
 use Rattle.replay.proofs.call.bare.Goals as goal
 
 pub returns-then-is_bare : goal.returns-then-is_bare

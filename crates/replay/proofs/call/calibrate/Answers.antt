@@ -3,7 +3,6 @@ use Rattle.units.specs.declared.Calibration.{Calibration}
 use Rattle.replay.specs.declared.call.Call.TheVariants.{Station}
 use Rattle.replay.specs.declared.call.Request.TheVariants.{Calibrated}
 use Rattle.replay.specs.Calls.{calibrating}
-use borrow.Author.Rules.{rules}
 use Rattle.replay.proofs.call.calibrate.Goals as goal
 
 pub returns-in_default : goal.returns-in_default

@@ -1,7 +1,6 @@
 use mathlib.Core.Path.{ap, ◌∙◌}
 use Rattle.script.specs.Patterns.{pattern_of}
 use Rattle.replay.proofs.CallLaws.{calibrated-so}
-use borrow.Author.Rules.{rules}
 use Rattle.replay.proofs.call.calibrated_of.Goals as goal
 
 pub returns : goal.returns

@@ -1,5 +1,4 @@
 -- `replay::call::call_by` meets its contract. Assumes nothing.
-use borrow.Author.Rules.{rules}
 use mathlib.Core.Path.{sym, ap, ◌∙◌}
 use Rattle.script.specs.declared.numbers.Number.{Number}
 use Rattle.replay.specs.declared.call.Request.TheVariants.{Open}

@@ -1,5 +1,4 @@
 -- `replay::call::call_of` meets its contract. Assumes nothing.
-use borrow.Author.Rules.{rules}
 use mathlib.Core.Path.{sym, ◌∙◌}
 use Rattle.replay.proofs.CallLaws.{skipped-so, called-so}
 use Rattle.replay.proofs.call.call_of.Goals as goal

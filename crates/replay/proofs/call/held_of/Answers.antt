@@ -4,7 +4,6 @@ use Prim.Native.Nat.{◌^◌}
 use Rattle.script.specs.Numbers.{number_of}
 use Rattle.replay.specs.Fields.{below_of}
 use Rattle.replay.proofs.CallLaws.{held-so}
-use borrow.Author.Rules.{rules}
 use Rattle.replay.proofs.call.held_of.Goals as goal
 
 pub returns : goal.returns

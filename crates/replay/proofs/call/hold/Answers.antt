@@ -2,7 +2,6 @@
 use mathlib.Core.Path.{ap}
 use Rattle.replay.specs.declared.call.Call.TheVariants.{Hold}
 use Rattle.replay.specs.Calls.{held}
-use borrow.Author.Rules.{rules}
 use Rattle.replay.proofs.call.hold.Goals as goal
 
 pub returns-in_default : goal.returns-in_default

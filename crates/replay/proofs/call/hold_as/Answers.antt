@@ -2,7 +2,6 @@
 use mathlib.Core.Path.{sym, ◌∙◌}
 use Rattle.replay.specs.Calls.{holding}
 use Rattle.replay.proofs.CallLaws.{chosen-here, chosen_on, chosen_none}
-use borrow.Author.Rules.{rules}
 use Rattle.replay.proofs.call.hold_as.Goals as goal
 
 pub returns-then-is : goal.returns-then-is

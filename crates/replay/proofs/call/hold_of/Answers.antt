@@ -1,7 +1,6 @@
 -- `replay::call::hold_of` meets its contract. Assumes nothing.
 use mathlib.Core.Path.{◌∙◌}
 use Rattle.replay.proofs.CallLaws.{hold-so}
-use borrow.Author.Rules.{rules}
 use Rattle.replay.proofs.call.hold_of.Goals as goal
 
 pub returns : goal.returns

@@ -1,6 +1,5 @@
 -- `replay::call::is_skipped` meets its contract. Assumes nothing.
 use Rattle.replay.proofs.CallLaws.{skipped-by, skipped-empty}
-use borrow.Author.Rules.{rules}
 use Rattle.replay.proofs.call.is_skipped.Goals as goal
 
 pub returns-then-first-gt0 : goal.returns-then-first-gt0

@@ -2,7 +2,6 @@
 use mathlib.Core.Path.{refl, sym, ◌∙◌}
 use Rattle.replay.specs.Calls.{lent}
 use Rattle.replay.proofs.CallLaws.{chosen-here, chosen_on, chosen_none}
-use borrow.Author.Rules.{rules}
 use Rattle.replay.proofs.call.lend.Goals as goal
 
 pub returns-in_default : goal.returns-in_default

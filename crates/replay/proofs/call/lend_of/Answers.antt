@@ -1,7 +1,6 @@
 -- `replay::call::lend_of` meets its contract. Assumes nothing.
 use mathlib.Core.Path.{◌∙◌}
 use Rattle.replay.proofs.CallLaws.{lend-so}
-use borrow.Author.Rules.{rules}
 use Rattle.replay.proofs.call.lend_of.Goals as goal
 
 pub returns : goal.returns

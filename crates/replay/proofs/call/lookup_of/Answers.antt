@@ -1,7 +1,6 @@
 -- `replay::call::lookup_of` meets its contract. Assumes nothing.
 use mathlib.Core.Path.{sym, ◌∙◌}
 use Rattle.replay.proofs.CallLaws.{looks-bare, looks_on}
-use borrow.Author.Rules.{rules}
 use Rattle.replay.proofs.call.lookup_of.Goals as goal
 
 pub returns-then-is_bare : goal.returns-then-is_bare

@@ -10,7 +10,6 @@ use Rattle.replay.specs.Fields.{carried_of}
 use Rattle.replay.specs.Calls.{with_number}
 use Rattle.replay.proofs.FieldLaws.{below-small}
 use Rattle.replay.proofs.CallLaws.{with_number_lem, chosen-here, chosen_on, chosen_none}
-use borrow.Author.Rules.{rules}
 use Rattle.replay.proofs.call.operation_of.Goals as goal
 
 pub returns-then-is : goal.returns-then-is

@@ -1,6 +1,5 @@
 -- `replay::call::with_number` meets its contract. Assumes nothing.
 use Rattle.replay.specs.Calls.{with_number}
-use borrow.Author.Rules.{rules}
 use Rattle.replay.proofs.call.with_number.Goals as goal
 
 pub returns-in-Is : goal.returns-in-Is

@@ -1,6 +1,5 @@
 -- `replay::call::write` meets its contract. Assumes nothing.
 use mir.Syntax.{w64}
-use mir.Val.{SFits}
 use lib.IntN.{ℤ}
 use mathlib.Core.Path.{ap}
 use mir.Facts.{to_z-of_z}
@@ -20,6 +19,4 @@ returns-in_default-value c = rw (c.in-Is.is, c.in_default-value.is)
 
 pub returns : goal.returns
 unfolding writing
-returns c =
-    let fits : SFits w64 c.in-Is-value.z = record { sfits = c.known_told-in-Is-value-1.given.0.1 } in
-    rw (c.in-Is.is, c.in-Is-value.is) (ap (λ (z : ℤ). Station (Write c.in-Is.v z)) (to_z-of_z {w = w64} fits))
+returns c = rw (c.in-Is.is, c.in-Is-value.is) (ap (λ (z : ℤ). Station (Write c.in-Is.v z)) (to_z-of_z {w = w64} (search rules)))

@@ -2,7 +2,6 @@
 use mathlib.Core.Path.{ap, ◌∙◌}
 use Rattle.script.specs.Numbers.{value_of}
 use Rattle.replay.proofs.CallLaws.{write-so}
-use borrow.Author.Rules.{rules}
 use Rattle.replay.proofs.call.write_of.Goals as goal
 
 pub returns : goal.returns

@@ -1,7 +1,6 @@
 -- `replay::fields::below` meets its contract. Assumes nothing.
 use borrow.Author.Tests.{lt-ltb, le-ltb}
 use Rattle.replay.specs.Fields.{below_of}
-use borrow.Author.Rules.{rules}
 use Rattle.replay.proofs.fields.below.Goals as goal
 
 pub returns-then-n-limit : goal.returns-then-n-limit

@@ -3,7 +3,6 @@ use mathlib.Core.Path.{ap, ◌∙◌}
 use Prim.Native.Nat.{◌^◌}
 use Rattle.bits.specs.Widths.{widest}
 use Rattle.replay.specs.Fields.{below_of}
-use borrow.Author.Rules.{rules}
 use Rattle.replay.proofs.fields.carried.Goals as goal
 
 pub returns : goal.returns

@@ -1,12 +1,7 @@
 -- `replay::fields::count_numbers` meets its contract. Assumes nothing.
 use Rattle.replay.proofs.FieldLaws.{tail-shorter, count-end, count-stops, count-on}
-use borrow.Author.Rules.{rules}
 use native.Mathlib.Omega.{arith}
-use mathlib.Core.Path.{◌≡◌, refl, sym, ◌∙◌}
-use Prim.Native.Nat.{◌+◌, ◌≤◌}
-use lib.ListN.{length}
-use Rattle.script.specs.Words.{words_of}
-use Rattle.replay.specs.Fields.{count_from}
+use mathlib.Core.Path.{refl, sym, ◌∙◌}
 use Rattle.replay.proofs.fields.count_numbers.Goals as goal
 
 pub loop-more-init : goal.loop-more-init

@@ -1,8 +1,5 @@
 -- `replay::fields::count_numbers` meets its contract. Assumes nothing.
-use Rattle.replay.proofs.FieldLaws.{tail-shorter, count-end, count-stops, count-on}
-use borrow.Author.Rules.{rules}
-use native.Mathlib.Omega.{arith}
-use mathlib.Core.Path.{◌≡◌, refl, sym, ◌∙◌}
+use mathlib.Core.Path.{◌≡◌}
 use Prim.Native.Nat.{◌+◌, ◌≤◌}
 use lib.ListN.{length}
 use Rattle.script.specs.Words.{words_of}

@@ -1,6 +1,5 @@
 -- `replay::fields::is_bare` meets its contract. Assumes nothing.
 use Rattle.replay.proofs.FieldLaws.{bare-so}
-use borrow.Author.Rules.{rules}
 use Rattle.replay.proofs.fields.is_bare.Goals as goal
 
 pub returns : goal.returns

@@ -1,12 +1,7 @@
 -- `replay::fields::lay` meets its contract. Assumes nothing.
 use Rattle.replay.proofs.FieldLaws.{stored-length, tail-shorter, laid_end, laid_on}
-use borrow.Author.Rules.{rules}
 use native.Mathlib.Omega.{arith}
-use mathlib.Core.Path.{◌≡◌, refl, sym, ◌∙◌}
-use Prim.Native.Nat.{◌+◌, ◌≤◌}
-use lib.ListN.{length}
-use Rattle.script.specs.Words.{words_of}
-use Rattle.replay.specs.Fields.{laid}
+use mathlib.Core.Path.{refl, sym, ◌∙◌}
 use Rattle.replay.proofs.fields.lay.Goals as goal
 
 pub loop-more-init : goal.loop-more-init

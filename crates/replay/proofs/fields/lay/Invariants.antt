@@ -1,8 +1,5 @@
 -- `replay::fields::lay` meets its contract. Assumes nothing.
-use Rattle.replay.proofs.FieldLaws.{stored-length, tail-shorter, laid_end, laid_on}
-use borrow.Author.Rules.{rules}
-use native.Mathlib.Omega.{arith}
-use mathlib.Core.Path.{◌≡◌, refl, sym, ◌∙◌}
+use mathlib.Core.Path.{◌≡◌}
 use Prim.Native.Nat.{◌+◌, ◌≤◌}
 use lib.ListN.{length}
 use Rattle.script.specs.Words.{words_of}

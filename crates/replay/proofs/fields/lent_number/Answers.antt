@@ -5,7 +5,6 @@ use Prim.Native.Nat.{◌^◌}
 use Rattle.bits.specs.Widths.{widest}
 use Rattle.replay.specs.Fields.{or_zero}
 use Rattle.replay.proofs.FieldLaws.{below-small}
-use borrow.Author.Rules.{rules}
 use Rattle.replay.proofs.fields.lent_number.Goals as goal
 
 pub overflow_cast-result : goal.overflow_cast-result

@@ -1,7 +1,6 @@
 -- `replay::fields::only_word` meets its contract. Assumes nothing.
 use mathlib.Core.Path.{sym, ◌∙◌}
 use Rattle.replay.proofs.FieldLaws.{only_so, only-not}
-use borrow.Author.Rules.{rules}
 use Rattle.replay.proofs.fields.only_word.Goals as goal
 
 pub returns-then-is_bare : goal.returns-then-is_bare

@@ -1,6 +1,5 @@
 -- `replay::fields::or_zero` meets its contract. Assumes nothing.
 use Rattle.replay.specs.Fields.{or_zero}
-use borrow.Author.Rules.{rules}
 use Rattle.replay.proofs.fields.or_zero.Goals as goal
 
 pub returns-in-Is : goal.returns-in-Is

@@ -1,6 +1,5 @@
 -- `replay::fields::power_on` meets its contract. Assumes nothing.
 use Rattle.replay.specs.Fields.{power_on}
-use borrow.Author.Rules.{rules}
 use Rattle.replay.proofs.fields.power_on.Goals as goal
 
 pub returns : goal.returns

@@ -1,6 +1,5 @@
 -- `replay::fields::put` meets its contract. Assumes nothing.
 use Rattle.replay.proofs.FieldLaws.{stored_past}
-use borrow.Author.Rules.{rules}
 use Rattle.replay.proofs.fields.put.Goals as goal
 
 pub returns-else-at-numbers : goal.returns-else-at-numbers

@@ -1,6 +1,5 @@
 -- `replay::session::answer` meets its contract. Assumes nothing.
 use Rattle.replay.specs.Sessions.{replied}
-use borrow.Author.Rules.{rules}
 use Rattle.replay.proofs.session.answer.Goals as goal
 
 pub returns : goal.returns

@@ -1,4 +1,3 @@
-use borrow.Author.Rules.{rules}
 use Rattle.replay.proofs.session.answered.Goals as goal
 
 pub returns : goal.returns

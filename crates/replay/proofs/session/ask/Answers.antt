@@ -2,7 +2,6 @@
 use Rattle.replay.proofs.SessionLaws.{asked-as, asks}
 use lib.Seq.{length-take-le}
 use mathlib.Core.Path.{sym}
-use borrow.Author.Rules.{rules}
 use Rattle.replay.proofs.session.ask.Goals as goal
 
 pub slice_bounds-told-end-3 : goal.slice_bounds-told-end-3

@@ -1,4 +1,3 @@
-use borrow.Author.Rules.{rules}
 use Rattle.replay.proofs.session.brought.Goals as goal
 
 pub returns-in-Calibrated : goal.returns-in-Calibrated

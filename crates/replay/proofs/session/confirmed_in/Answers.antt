@@ -1,4 +1,3 @@
-use borrow.Author.Rules.{rules}
 use Rattle.replay.proofs.session.confirmed_in.Goals as goal
 
 pub returns-in-Units : goal.returns-in-Units

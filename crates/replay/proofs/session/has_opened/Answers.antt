@@ -1,4 +1,3 @@
-use borrow.Author.Rules.{rules}
 use Rattle.replay.proofs.session.has_opened.Goals as goal
 
 pub returns-in-Same : goal.returns-in-Same

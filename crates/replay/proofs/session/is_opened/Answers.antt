@@ -1,6 +1,5 @@
 -- `replay::session::is_opened` meets its contract. Assumes nothing.
 use Rattle.replay.specs.Sessions.{is_opened}
-use borrow.Author.Rules.{rules}
 use Rattle.replay.proofs.session.is_opened.Goals as goal
 
 pub returns-in-Opened : goal.returns-in-Opened

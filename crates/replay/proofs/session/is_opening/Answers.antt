@@ -1,5 +1,4 @@
 use Rattle.replay.specs.Sessions.{is_opening}
-use borrow.Author.Rules.{rules}
 use Rattle.replay.proofs.session.is_opening.Goals as goal
 
 pub returns-in-Open : goal.returns-in-Open

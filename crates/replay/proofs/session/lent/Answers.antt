@@ -3,7 +3,6 @@ use mathlib.Core.Path.{ap, ◌∙◌}
 use Prim.Native.Nat.{min}
 use native.Mathlib.Omega.{arith}
 use Rattle.replay.specs.Sessions.{lent_of}
-use borrow.Author.Rules.{rules}
 use Rattle.replay.proofs.session.lent.Goals as goal
 
 pub returns-then-there : goal.returns-then-there

@@ -1,5 +1,4 @@
 -- `replay::session::look` meets its contract. Assumes nothing.
-use borrow.Author.Rules.{rules}
 use Rattle.replay.proofs.session.look.Goals as goal
 
 pub returns : goal.returns

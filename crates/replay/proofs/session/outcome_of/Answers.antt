@@ -1,5 +1,4 @@
 use mir.Syntax.{w64}
-use mir.Val.{SFits}
 use mir.Facts.{to_z-of_z}
 use Rattle.replay.specs.Sessions.{requested}
 use borrow.Author.Rules.{rules}
@@ -7,7 +6,7 @@ use Rattle.replay.proofs.session.outcome_of.Goals as goal
 
 pub returns-in-Open : goal.returns-in-Open
 unfolding requested
-returns-in-Open c = rw c.in-Open.is (rw c.front-used.ensures at (goal.at.returns-in-Open c).After-open.«open».ensures)
+returns-in-Open c = rw c.in-Open.is (rw c.front-used.ensures at c.open.ensures)
 
 pub returns-in-Read : goal.returns-in-Read
 unfolding requested
@@ -15,7 +14,7 @@ returns-in-Read c = rw c.in-Read.is c.begin_read.ensures
 
 pub returns-in-Write : goal.returns-in-Write
 unfolding requested
-returns-in-Write c = let fits : SFits w64 c.in-Write.z = record { sfits = c.known_told-in-Write-1.given.1.0.1 } in rw c.in-Write.is (rw (to_z-of_z {w = w64} fits) at c.begin_write.ensures)
+returns-in-Write c = rw c.in-Write.is (rw (to_z-of_z {w = w64} {z = c.in-Write.z} (search rules)) at c.begin_write.ensures)
 
 pub returns-in-Confirm : goal.returns-in-Confirm
 unfolding requested

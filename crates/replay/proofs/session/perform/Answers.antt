@@ -2,7 +2,6 @@
 use mathlib.Core.Path.{◌∙◌}
 use Rattle.replay.specs.Sessions.{performed}
 use Rattle.replay.proofs.SessionLaws.{stays}
-use borrow.Author.Rules.{rules}
 use Rattle.replay.proofs.session.perform.Goals as goal
 
 pub returns-in-Nothing : goal.returns-in-Nothing

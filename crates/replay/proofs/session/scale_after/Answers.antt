@@ -1,6 +1,5 @@
 use mathlib.Core.Path.{sym, ◌∙◌}
 use Rattle.replay.specs.Scales.{scale_after}
-use borrow.Author.Rules.{rules}
 use Rattle.replay.proofs.session.scale_after.Goals as goal
 
 pub returns-then-is_idle : goal.returns-then-is_idle

@@ -1,6 +1,5 @@
 use mathlib.Core.Path.{sym, ◌∙◌}
 use Rattle.replay.proofs.SessionLaws.{plain-so}
-use borrow.Author.Rules.{rules}
 use Rattle.replay.proofs.session.told.Goals as goal
 
 pub returns-in-Byte : goal.returns-in-Byte

@@ -1,4 +1,3 @@
-use borrow.Author.Rules.{rules}
 use Rattle.replay.proofs.session.with_byte.Goals as goal
 
 pub returns-in-Confirm : goal.returns-in-Confirm

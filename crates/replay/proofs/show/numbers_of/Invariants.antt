@@ -1,6 +1,4 @@
 -- `replay::show::numbers_of` ends.
-use native.Mathlib.Omega.{arith}
-use borrow.Author.Rules.{rules}
 use Prim.Native.Nat.{◌≤◌, ◌-◌}
 use lib.ListN.{length}
 use Rattle.replay.proofs.show.numbers_of.Given as goal

@@ -1,7 +1,6 @@
 -- `replay::show::state` is safe.
 use mathlib.Core.Path.{sym}
 use lib.Seq.{length-take-le}
-use borrow.Author.Rules.{rules}
 use Rattle.replay.proofs.show.state.Goals as goal
 
 pub slice_bounds-numbers_of-end : goal.slice_bounds-numbers_of-end

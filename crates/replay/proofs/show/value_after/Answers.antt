@@ -7,7 +7,6 @@ use lib.Dec.{T}
 use mir.Syntax.{w64}
 use mir.Val.{Fits}
 use Rattle.bits.proofs.Signed.{natural-bits}
-use borrow.Author.Rules.{rules}
 use Rattle.replay.proofs.show.value_after.Goals as goal
 
 pub overflow_add-below_zero : goal.overflow_add-below_zero
