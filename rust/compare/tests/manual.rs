@@ -1,5 +1,6 @@
 //! The examples of docs/DEVIL.md: the proved programs `verdict` and `replay` answer what the manual says. `rt run` in
-//! crates/verdict and crates/replay builds them. The second implementation is held to the same by its own test of this name.
+//! crates/verdict and crates/replay builds them. The second implementation is held to the same by its own test of this
+//! name.
 
 use compare::programs::{root, written};
 use house::examples::{examples, Example};

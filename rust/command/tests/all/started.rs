@@ -74,8 +74,8 @@ pub fn scratch(name: &str, bytes: &[u8]) -> String {
     path.into_os_string().into_string().expect("a plain path")
 }
 
-/// A place of a test's own outside the repository, for what `rt ci` refuses below it: links, and another tree. Nothing is
-/// there yet.
+/// A place of a test's own outside the repository, for what `rt ci` refuses below it: links, and another tree. Nothing
+/// is there yet.
 pub fn apart(name: &str) -> PathBuf {
     let path = env::temp_dir().join(format!("desfanuk-{name}-{}", process::id()));
     let _ = fs::remove_dir_all(&path);
