@@ -1,6 +1,5 @@
 use mathlib.Core.Path.{sym}
 use lib.Seq.{length-take-le}
-use borrow.Author.Rules.{rules}
 use Rattle.arrivals.proofs.take.Goals as goal
 
 pub slice_bounds-take_piece-end-2 : goal.slice_bounds-take_piece-end-2

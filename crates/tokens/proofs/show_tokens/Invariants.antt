@@ -1,11 +1,6 @@
 -- `tokens::show_tokens` ends: each token that is not the last brings the reader forward.
-use borrow.Author.Rules.{rules}
-use native.Mathlib.Omega.{arith}
-use Prim.Native.Nat.{◌≤◌, ◌<◌, ◌-◌}
-use mathlib.Core.Path.{◌≡◌, sym, ap, ◌∙◌}
+use Prim.Native.Nat.{◌≤◌, ◌-◌}
 use lib.ListN.{length}
-use Rattle.token.specs.Fair.{goes_on_lem}
-use Rattle.token.proofs.Laws.{passes}
 use Rattle.tokens.proofs.show_tokens.Given as goal
 
 abbrev pub invariant-loop-at : goal.invariant-loop-at
