@@ -175,28 +175,14 @@ fn run(
         let frame = frames::headed_at(calls, at, b"piece");
         match frame {
             Frame::Text { start, end, next } => {
-                now = take(
-                    out,
-                    &calls[start..end],
-                    store,
-                    parameters,
-                    registers,
-                    variables,
-                    now,
-                )?;
+                let piece = &calls[start..end];
+                now = take(out, piece, store, parameters, registers, variables, now)?;
                 at = next;
             }
             Frame::Nothing => {
                 let to = script::line_end(calls, at);
-                now = hear(
-                    out,
-                    &calls[at..to],
-                    store,
-                    parameters,
-                    registers,
-                    variables,
-                    now,
-                )?;
+                let line = &calls[at..to];
+                now = hear(out, line, store, parameters, registers, variables, now)?;
                 at = to + 1;
             }
         }

@@ -1,6 +1,5 @@
 use mathlib.Core.Path.{sym}
 use lib.Seq.{length-take-le}
-use borrow.Author.Rules.{rules}
 use Rattle.arrivals.proofs.end.Goals as goal
 
 pub slice_bounds-end_pieces-end : goal.slice_bounds-end_pieces-end

@@ -1,8 +1,4 @@
 -- `arrivals::play_framed` ends: a frame that is found begins inside the input and ends behind its beginning.
-use native.Mathlib.Omega.{arith}
-use borrow.Author.Rules.{rules}
-use Prim.Native.Nat.{◌≤◌, ◌-◌}
-use lib.ListN.{length}
 use Rattle.frames.proofs.FrameLaws.{text-within, text-nearer}
 use Rattle.arrivals.proofs.play_framed.Goals as goal
 

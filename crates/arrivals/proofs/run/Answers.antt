@@ -1,9 +1,7 @@
 -- `arrivals::run` ends.
 use native.Mathlib.Omega.{arith}
 use borrow.Author.Rules.{rules}
-use mathlib.Core.Path.{◌≡◌, refl}
-use Prim.Native.Nat.{◌-◌}
-use lib.ListN.{length}
+use mathlib.Core.Path.{refl}
 use Rattle.frames.proofs.FrameLaws.{headed-within}
 use Rattle.script.proofs.WordLaws.{line-within}
 use Rattle.arrivals.proofs.run.Goals as goal
@@ -11,14 +9,14 @@ use Rattle.arrivals.proofs.run.Goals as goal
 pub loop-at-init : goal.loop-at-init
 loop-at-init g c = (refl, refl, refl, refl)
 
-pub slice_bounds-take-count : goal.slice_bounds-take-count
-slice_bounds-take-count g c = (headed-within _ _ _ _ c.headed_at-frame.ensures c.in-Text.is).0
+pub slice_bounds-piece-count : goal.slice_bounds-piece-count
+slice_bounds-piece-count g c = (headed-within _ _ _ _ c.headed_at-frame.ensures c.in-Text.is).0
 
-pub slice_bounds-take-start : goal.slice_bounds-take-start
-slice_bounds-take-start g c = (headed-within _ _ _ _ c.headed_at-frame.ensures c.in-Text.is).0
+pub slice_bounds-piece-start : goal.slice_bounds-piece-start
+slice_bounds-piece-start g c = (headed-within _ _ _ _ c.headed_at-frame.ensures c.in-Text.is).0
 
-pub slice_bounds-take-end : goal.slice_bounds-take-end
-slice_bounds-take-end g c = (headed-within _ _ _ _ c.headed_at-frame.ensures c.in-Text.is).1
+pub slice_bounds-piece-end : goal.slice_bounds-piece-end
+slice_bounds-piece-end g c = (headed-within _ _ _ _ c.headed_at-frame.ensures c.in-Text.is).1
 
 pub loop-at-smaller-in-Text : goal.loop-at-smaller-in-Text
 loop-at-smaller-in-Text g c = omega (arith, c.loop-at-test.true, (headed-within _ _ _ _ c.headed_at-frame.ensures c.in-Text.is).2)
@@ -26,14 +24,14 @@ loop-at-smaller-in-Text g c = omega (arith, c.loop-at-test.true, (headed-within 
 pub loop-at-preserved-in-Text : goal.loop-at-preserved-in-Text
 loop-at-preserved-in-Text g c = (search rules, search rules, search rules, search rules)
 
-pub slice_bounds-hear-count : goal.slice_bounds-hear-count
-slice_bounds-hear-count g c = (line-within _ _ _ c.line_end-to.ensures c.loop-at-test.true).0
+pub slice_bounds-line-count : goal.slice_bounds-line-count
+slice_bounds-line-count g c = (line-within _ _ _ c.line_end-to.ensures c.loop-at-test.true).0
 
-pub slice_bounds-hear-start : goal.slice_bounds-hear-start
-slice_bounds-hear-start g c = (line-within _ _ _ c.line_end-to.ensures c.loop-at-test.true).0
+pub slice_bounds-line-start : goal.slice_bounds-line-start
+slice_bounds-line-start g c = (line-within _ _ _ c.line_end-to.ensures c.loop-at-test.true).0
 
-pub slice_bounds-hear-end : goal.slice_bounds-hear-end
-slice_bounds-hear-end g c = (line-within _ _ _ c.line_end-to.ensures c.loop-at-test.true).1
+pub slice_bounds-line-end : goal.slice_bounds-line-end
+slice_bounds-line-end g c = (line-within _ _ _ c.line_end-to.ensures c.loop-at-test.true).1
 
 pub overflow_add-at : goal.overflow_add-at
 overflow_add-at g c = record { fits = omega (arith, (line-within _ _ _ c.line_end-to.ensures c.loop-at-test.true).1) }

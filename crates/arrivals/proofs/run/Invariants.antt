@@ -1,11 +1,7 @@
 -- `arrivals::run` ends.
-use native.Mathlib.Omega.{arith}
-use borrow.Author.Rules.{rules}
-use mathlib.Core.Path.{◌≡◌, refl}
+use mathlib.Core.Path.{◌≡◌}
 use Prim.Native.Nat.{◌-◌}
 use lib.ListN.{length}
-use Rattle.frames.proofs.FrameLaws.{headed-within}
-use Rattle.script.proofs.WordLaws.{line-within}
 use Rattle.arrivals.proofs.run.Given as goal
 
 abbrev pub invariant-loop-at : goal.invariant-loop-at
