@@ -9,4 +9,4 @@ returns-then-at-input c = rw (ends_at, lt-ltb _ _ c.if-at-input.true)
 
 pub returns-else-at-input : goal.returns-else-at-input
 unfolding ends_at
-returns-else-at-input c = rw (ends_at, le-ltb _ _ c.if-at-input.false)
+returns-else-at-input c = rw (le-ltb _ _ c.if-at-input.false, ends_at)
