@@ -1,8 +1,8 @@
--- `replay::session::ask` meets its contract. Assumes nothing.
+-- `replay::session::Description::ask` meets its contract. Assumes nothing.
 use Rattle.replay.proofs.SessionLaws.{asked-as, asks}
 use lib.Seq.{length-take-le}
 use mathlib.Core.Path.{sym}
-use Rattle.replay.proofs.session.ask.Goals as goal
+use Rattle.replay.proofs.session.Description.ask.Goals as goal
 
 pub slice_bounds-told-end-3 : goal.slice_bounds-told-end-3
 slice_bounds-told-end-3 c = sym (length-take-le _ _ c.lent-held.ensures.upper_bound)
