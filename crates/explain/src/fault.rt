@@ -4,7 +4,7 @@ use crate::sought::{nth_of_kind, nth_sought};
 use details::entries::{Entry, piece_count, variable_has};
 use details::places::opening;
 use rules::modifiers::are_paired;
-use syntax::kinds::{COLON, NUMBER, OPEN, READ, TRIGGER, VOLATILE, WRITE};
+use syntax::kinds::{COLON, NUMBER, OPEN_BRACKET, READ, TRIGGER, VOLATILE, WRITE};
 use syntax::{Masks, Register};
 use tables::Part;
 use token::Token;
@@ -84,7 +84,7 @@ fn width_fault(text: &[u8], variables: &[u32], place: usize) -> Option<usize> {
         nth_sought(text, place, 1, |_, before| before == Some(COLON))
     } else {
         nth_sought(text, place, 1, |token, before| {
-            token.kind() == NUMBER && before == Some(OPEN)
+            token.kind() == NUMBER && before == Some(OPEN_BRACKET)
         })
     }
 }

@@ -33,7 +33,7 @@ fn character(bytes: &[u8]) -> Option<usize>
 }
 
 // The characters of a line, a question mark for a byte that begins none, or blanks as wide as they, to stand before the
-// caret.
+// caret. Each turn shows a character, which says how many bytes it takes.
 fn show_bytes(out: &mut impl io::Write, bytes: &[u8], blank: bool) -> io::Result<()> {
     let mut rest = bytes;
     while !rest.is_empty() {

@@ -134,7 +134,7 @@ fn show_head(out: &mut impl io::Write, marks: &str, lowest: u32) -> io::Result<(
     }
 }
 
-// The cells of the row that ends below `left`.
+// The cells of the row that ends below `left`. Each turn shows a run of bits, which says how many it takes.
 fn show_cells(
     out: &mut impl io::Write,
     device: Described,

@@ -134,8 +134,8 @@ fn lend_of(tail: &[u8]) -> Option<Call>
     }
 }
 
-#[tactic(auto, unfolding(crate::specs::Calls::in_hand_lem))]
 // An operation of one of two kinds, as its definition has them by a flag.
+#[tactic(auto, unfolding(crate::specs::Calls::in_hand_lem))]
 fn in_hand(reading: bool, variable: usize, step: usize, pattern: usize) -> Operation
     ensures { result ≡ in_hand_lem reading variable step pattern }
 {

@@ -30,7 +30,7 @@ pub fn carried(word: &[u8]) -> Option<u32>
     u32::try_from(number_of(word)?).ok()
 }
 
-// How many numbers for registers the words are, if each is one.
+// How many numbers for registers the words are, if each is one. Each turn takes a word.
 pub fn count_numbers(tail: &[u8]) -> Option<usize>
     ensures { result ≡ count_from (words_of tail.now) 0 }
 {

@@ -86,7 +86,8 @@ fn run_script(
     }
 }
 
-// One script at a time. What stands behind a refused text, or before the first text, is passed over line by line.
+// One script at a time. What stands behind a refused text, or before the first text, is passed over line by line. Each
+// turn takes a text or a line.
 fn run(
     out: &mut impl io::Write,
     input: &[u8],

@@ -12,7 +12,7 @@ ghost use Rattle.station.specs.Promise.{lent, Meets};
 use crate::refusal::Refusal;
 use crate::standing::Lent;
 use crate::variable::{Variable, fits_mask};
-use crate::{Answer, Operation, Outcome};
+use crate::{Operation, Outcome};
 use tables::Part;
 
 // `step` accesses of the read are confirmed: the next is offered, or none is left and the read is done.

@@ -1,7 +1,6 @@
 // Parameters, registers and their places, by name.
-pub use details::entries::Entry;
-
 use crate::write::quoted;
+pub use details::entries::Entry;
 use details::entries::{
     count_of, range_count, range_high, range_low, register_width, register_word,
 };
@@ -97,8 +96,5 @@ pub fn show_bit(
     bit: usize,
 ) -> io::Result<()> {
     write!(out, "bit {} of ", bit % 64)?;
-    quoted(
-        out,
-        Entry::Register.name(text, registers, narrow(bit / 64)),
-    )
+    quoted(out, Entry::Register.name(text, registers, narrow(bit / 64)))
 }

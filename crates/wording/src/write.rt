@@ -47,11 +47,6 @@ pub fn say(
     Ok(())
 }
 
-// A message with a number.
-pub fn say_number(out: &mut impl io::Write, message: &[u8], n: usize) -> io::Result<()> {
-    say(out, message, n, b"", b"")
-}
-
 // A message with a name.
 pub fn say_name(out: &mut impl io::Write, message: &[u8], name: &[u8]) -> io::Result<()> {
     say(out, message, 0, name, b"")
