@@ -1,19 +1,18 @@
 -- A call for a text in pieces, told in words, keeps the promise of the C face, and no promise leaves room for a second
 -- answer. Assumes nothing.
-use Prim.Native.Nat.{ℕ, ◌<◌, ◌≤◌}
+use Prim.Native.Nat.{ℕ}
 use mathlib.Core.Path.{◌≡◌, ◌∙◌, refl, sym, ap, subst}
 use mathlib.Core.Bool.{cond}
 use mathlib.Core.List.{List, [], ◌∷◌}
-use native.Mathlib.Omega.{arith}
 use lib.Dec.{eqb}
-use lib.ListN.{length, get_or}
+use lib.ListN.{get_or}
 use Rattle.std.proofs.Common.{Ok, Err}
 use Rattle.pieces.specs.declared.Taken.{Taken}
 use Rattle.pieces.specs.declared.Ended.{Ended}
 use Rattle.pieces.specs.Pieces.{Reply, Took, Closed, more, stopped, held_as, took_as, ended_as}
 use Rattle.abi.specs.Words.{written}
 use Rattle.abi.specs.Loading.{ToldVerdict}
-use Rattle.abi.specs.Arriving.{taken_of, reply_words, ToldReply, TellsTook, TellsClosed}
+use Rattle.abi.specs.Arriving.{reply_words, ToldReply, TellsTook, TellsClosed}
 use Rattle.abi.proofs.LoadingLaws.{tells-loaded}
 use Rattle.abi.proofs.Meaning.{SameLoaded, only_one-loaded}
 

@@ -1,7 +1,7 @@
 -- Laws of words written and read.
 -- Assumes nothing.
 use Prim.Native.Nat.{ℕ, zero, suc, ◌<◌, ◌^◌, min}
-use mathlib.Core.Path.{◌≡◌, ◌∙◌, refl, sym, ap, ap₂}
+use mathlib.Core.Path.{◌≡◌, ◌∙◌, refl, ap}
 use mathlib.Core.List.{List, [], ◌∷◌, ◌++◌}
 use native.Mathlib.Omega.{arith}
 use lib.IntN.{ℤ, pos}
@@ -25,8 +25,3 @@ module _ {A : Type 0} where
 -- what the machine reads back from a number that fits
 pub said : (n : ℕ) {z : ℤ} → n < 2 ^ 32 → z ≡ pos n → to_z w64 (of_z w64 z) ≡ pos n
 said n small e = ap (λ (y : ℤ). to_z w64 (of_z w64 y)) e ∙ natural-read n (omega arith)
-
--- an answer's words, field by field
-pub fields : (lent : List ℤ) (kind : ℤ) {a b c d a' b' c' d' : ℤ} {after : List ℤ} → after ≡ written (kind ∷ a ∷ b ∷ c ∷ d ∷ []) lent
-    → a ≡ a' → b ≡ b' → c ≡ c' → d ≡ d' → after ≡ written (kind ∷ a' ∷ b' ∷ c' ∷ d' ∷ []) lent
-fields lent kind e p q r s = rw (sym p, sym q, sym r, sym s) e

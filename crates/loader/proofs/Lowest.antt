@@ -2,8 +2,8 @@
 -- Assumes nothing.
 use Prim.Native.Nat.{ℕ, zero, suc, ◌*◌, ◌≤◌, ◌<◌}
 use native.Mathlib.Omega.{arith}
-use mathlib.Core.Path.{◌≡◌, refl, ap, ◌∙◌}
-use mathlib.Core.Bool.{Bool, true, false, ◌&&◌, ◌||◌, not, cond}
+use mathlib.Core.Path.{◌≡◌, refl, sym, ap, ◌∙◌}
+use mathlib.Core.Bool.{Bool, true, false, ◌&&◌, ◌||◌, not, cond, false≢true}
 use mathlib.Core.List.{List, [], ◌∷◌}
 use lib.Dec.{eqb}
 use lib.ListN.{get_or}
@@ -15,7 +15,8 @@ use Rattle.tables.specs.Tables.{count_of, parameter_width, variable_part_of}
 use Rattle.std.specs.Prelude.{Option, Some, None}
 use Rattle.rules.specs.declared.fault.Fault.{Fault}
 use Rattle.rules.proofs.FaultLaws.{if-number, of-number, or-number, Named, named-none, named-if, named-only, named-or}
-use Rattle.rules.specs.Fault.{fault_if, only, is_fault, or_else, number_in}
+use Rattle.std.specs.Bool.{then_some}
+use Rattle.rules.specs.Fault.{fault_if, fault_of, only, is_fault, or_else, number_in}
 use Rattle.rules.specs.State.{State, stopped, unless_broken, with_parameters, with_registers, with_variables}
 use Rattle.rules.specs.Names.{name_of, is_nothing, is_declared, declared_before}
 use Rattle.rules.specs.Parameter.{parameter_entry, added_parameter, judge_parameter}
@@ -25,8 +26,29 @@ use Rattle.syntax.specs.declared.register.Register.{Register}
 use Rattle.rules.specs.Lists.{unknown_in, piece_named}
 use Rattle.rules.specs.Variable.{bad_behaviours, lowest, list_of, variables_with, name_fault, early_fault, late_number, added_variable, judge_variable}
 use Rattle.rules.proofs.Growing.{Growing}
-use Rattle.loader.specs.Order.{rule, first_of_rules, parameter_rules, is_unknown, is_misplaced, register_rules, variable_rules}
+use Rattle.loader.specs.Order.{NamesRule, rule, first_of_rules, parameter_rules, is_unknown, is_misplaced, register_rules, variable_rules}
 use Rattle.loader.proofs.Placed.{entry-placed}
+
+-- ---- what is named, and its number
+of-named : (number place : ℕ) → Named (fault_of number place)
+unfolding fault_of fault_if
+of-named number place = go (eqb number 0) refl
+  where
+    go : (b : Bool) → eqb number 0 ≡ b → Named (then_some (not (eqb number 0)) (record { number = number; place = place }))
+    go true e = rw e refl
+    go false e = rw e (sym (ap not e))
+
+broken-named : (s : State) (before : Option Fault) (entered : State) → Named before → Named entered.fault → Named (unless_broken s before entered).fault
+unfolding unless_broken stopped
+broken-named s before entered h k = go (is_fault before)
+  where
+    go : (b : Bool) → Named (cond b (stopped s before) entered).fault
+    go true = h
+    go false = k
+
+names-rule : (f : Option Fault) {n : ℕ} → number_in f ≡ n → Named f → NamesRule f n
+names-rule None e h = sym e
+names-rule (Some x) e h = (e, λ z. false≢true (sym (h ∙ ap (λ (m : ℕ). not (eqb m 0)) (e ∙ z))))
 
 -- a piece that is named wrongly breaks 7, wherever it is
 unknown-seven : (text rs list : List ℕ) (n : ℕ) → number_in (unknown_in text rs list n) ≡ cond (is_fault (unknown_in text rs list n)) 7 0
@@ -58,13 +80,20 @@ unfolding unless_broken fault_if stopped
 six_first true place s t = refl
 six_first false place s t = refl
 
-pub parameter-lowest : (text : List ℕ) (s : State) (d : ParameterRead) → number_in (judge_parameter text s d).fault ≡ first_of_rules (parameter_rules text s d)
+parameter-number : (text : List ℕ) (s : State) (d : ParameterRead) → number_in (judge_parameter text s d).fault ≡ first_of_rules (parameter_rules text s d)
 unfolding judge_parameter declared_before added_parameter with_parameters parameter_fault parameter_rules
-parameter-lowest text s d =
+parameter-number text s d =
     let ps = appended 36 s.parameters (parameter_entry d) in
     let i = count_of s.parameters in
     let a = is_declared text s (name_of text d.parameter.place d.parameter.length) in
     six_first a d.parameter.place s (added_parameter s d) ∙ ap (cond a 6) (of-number (parameter_fault ps i) _) ∙ parameter-order a (ranges_fit ps i) (is_width (parameter_width ps i))
+
+parameter-named : (text : List ℕ) (s : State) (d : ParameterRead) → Named (judge_parameter text s d).fault
+unfolding judge_parameter declared_before added_parameter with_parameters
+parameter-named text s d = broken-named s _ (added_parameter s d) (named-if _ 6 _ (λ z. cc)) (of-named _ _)
+
+pub parameter-lowest : (text : List ℕ) (s : State) (d : ParameterRead) → NamesRule (judge_parameter text s d).fault (first_of_rules (parameter_rules text s d))
+parameter-lowest text s d = names-rule _ (parameter-number text s d) (parameter-named text s d)
 
 -- ---- a register
 broken-number : (s : State) (before : Option Fault) (entered : State) → number_in (unless_broken s before entered).fault ≡ cond (is_fault before) (number_in before) (number_in entered.fault)
@@ -145,13 +174,20 @@ module _ (text : List ℕ) {parameters registers variables : ℕ} (s : State) (r
       broken-number s (register_written text s r) (added_register text s r)
       ∙ ap (cond (is_fault (register_written text s r)) (number_in (register_written text s r))) (of-number (register_fault s.parameters rs i) _)
 
-  pub register-lowest : number_in (judge_register text s r).fault ≡ first_of_rules (register_rules text s r)
+  register-number : number_in (judge_register text s r).fault ≡ first_of_rules (register_rules text s r)
   unfolding register_rules
-  register-lowest =
+  register-number =
       judged-register ∙ after_none (register_written text s r) _ _ written-named placed-is
       ∙ rw written_is
       (register-order (is_declared text s (name_of text r.place r.length)) (is_unknown text s r.first || (r.two && is_unknown text s r.second))
       (is_misplaced text s r.first || (r.two && is_misplaced text s r.second)) (not (is_paired r && masks_kept r)) (place_taken rs 0 i || place_taken rs 1 i) (width_kept s.parameters rs i))
+
+  register-named : Named (judge_register text s r).fault
+  unfolding judge_register added_register with_registers
+  register-named = broken-named s _ (added_register text s r) written-named (of-named _ _)
+
+  pub register-lowest : NamesRule (judge_register text s r).fault (first_of_rules (register_rules text s r))
+  register-lowest = names-rule _ register-number register-named
 
 -- ---- a variable
 abbrev early : (a u w p : Bool) → ℕ
@@ -241,9 +277,9 @@ module _ (text : List ℕ) (s : State) (it : VariableRead) where
       broken-number s (early_fault text s it) (added_variable text s it)
       ∙ ap (λ (n : ℕ). cond (is_fault (early_fault text s it)) (number_in (early_fault text s it)) n) (of-number (late_number text s it) it.variable.place)
 
-  pub variable-lowest : number_in (judge_variable text s it).fault ≡ first_of_rules (variable_rules text s it)
+  variable-number : number_in (judge_variable text s it).fault ≡ first_of_rules (variable_rules text s it)
   unfolding late_number variable_fault own_fault variable_rules
-  variable-lowest =
+  variable-number =
       let rs = s.registers in
       let vs = variables_with text s it in
       let v = count_of s.variables in
@@ -252,3 +288,10 @@ module _ (text : List ℕ) (s : State) (it : VariableRead) where
       (variable-order declared (is_fault firsts) (is_fault seconds) unpaired (part_maps rs 0 (variable_part_of vs 0 v) && part_maps rs 1 (variable_part_of vs 1 v)) (type_fits vs v)
       (volatile_fits vs v) (bad_behaviours it.variable.rest.behaviours (list_of text s it 0) (list_of text s it 1)) (mapped_before vs 0 v || mapped_before vs 1 v)
       (trigger_shared vs 0 v || trigger_shared vs 1 v))
+
+  variable-named : Named (judge_variable text s it).fault
+  unfolding judge_variable added_variable with_variables
+  variable-named = broken-named s _ (added_variable text s it) early-named (of-named _ _)
+
+  pub variable-lowest : NamesRule (judge_variable text s it).fault (first_of_rules (variable_rules text s it))
+  variable-lowest = names-rule _ variable-number variable-named

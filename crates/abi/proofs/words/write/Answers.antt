@@ -1,4 +1,4 @@
-use mathlib.Core.Path.{◌∙◌, ap, sym}
+use mathlib.Core.Path.{◌∙◌, ap}
 use mathlib.Core.List.{List, ◌++◌}
 use lib.ListN.{drop}
 use Rattle.abi.proofs.WordLaws.{copied}
