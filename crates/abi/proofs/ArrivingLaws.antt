@@ -1,20 +1,18 @@
 -- A call for a text in pieces, told in words, keeps the promise of the C face, and no promise leaves room for a second
 -- answer. Assumes nothing.
-use Prim.Native.Nat.{ℕ, ◌<◌, ◌≤◌}
+use Prim.Native.Nat.{ℕ}
 use mathlib.Core.Path.{◌≡◌, ◌∙◌, refl, sym, ap, subst}
 use mathlib.Core.Bool.{cond}
 use mathlib.Core.List.{List, [], ◌∷◌}
-use native.Mathlib.Omega.{arith}
 use lib.Dec.{eqb}
-use lib.ListN.{length, get_or}
-use Rattle.pieces.specs.declared.Reply.{Reply}
-use Rattle.pieces.specs.declared.Reply.TheVariants.{More, Refused}
+use lib.ListN.{get_or}
+use Rattle.std.proofs.Common.{Ok, Err}
 use Rattle.pieces.specs.declared.Taken.{Taken}
 use Rattle.pieces.specs.declared.Ended.{Ended}
-use Rattle.pieces.specs.Pieces.{Took, Closed, held_as, took_as, ended_as}
+use Rattle.pieces.specs.Pieces.{Reply, Took, Closed, more, stopped, held_as, took_as, ended_as}
 use Rattle.abi.specs.Words.{written}
 use Rattle.abi.specs.Loading.{ToldVerdict}
-use Rattle.abi.specs.Arriving.{taken_of, reply_words, ToldReply, TellsTook, TellsClosed}
+use Rattle.abi.specs.Arriving.{reply_words, ToldReply, TellsTook, TellsClosed}
 use Rattle.abi.proofs.LoadingLaws.{tells-loaded}
 use Rattle.abi.proofs.Meaning.{SameLoaded, only_one-loaded}
 
@@ -38,11 +36,11 @@ module _ (call : ℕ → Closed) {n m : ℕ} (same : n ≡ m) (given : Ended) {p
 -- ── no two replies have the same words ──
 
 abbrev reply_of : List ℕ → Reply
-reply_of words = cond (eqb (get_or words 0 0) 2) More (Refused (get_or words 1 0) (get_or words 2 0))
+reply_of words = cond (eqb (get_or words 0 0) 2) more (stopped (get_or words 1 0) (get_or words 2 0))
 
 reply-back : (reply : Reply) → reply_of (reply_words reply) ≡ reply
-reply-back More = refl
-reply-back (Refused number place) = refl
+reply-back (Ok done) = refl
+reply-back (Err refused) = refl
 
 pub replies-apart : (a b : Reply) → reply_words a ≡ reply_words b → a ≡ b
 replies-apart a b same = sym (reply-back a) ∙ ap reply_of same ∙ reply-back b
@@ -75,15 +73,3 @@ pub only_one-closed : {c : Closed} {lent old parameters parameters' registers re
     → TellsClosed c lent old parameters registers variables taken answer number → TellsClosed c lent old parameters' registers' variables' taken' answer' number'
     → SameClosed parameters parameters' registers registers' variables variables' taken taken' answer answer' number number'
 only_one-closed one two = record { takens = one.taken_is ∙ sym two.taken_is; loads = only_one-loaded one.loads two.loads }
-
--- ── for the code: the word ──
-
-pub taken_none : (words : List ℕ) → length words < 1 → 8193 ≡ taken_of words
-unfolding taken_of
-taken_none [] few = refl
-taken_none (word ∷ words) few = absurd (omega arith)
-
-pub taken-some : (words : List ℕ) → 1 ≤ length words → get_or words 0 0 ≡ taken_of words
-unfolding taken_of
-taken-some [] some = absurd (omega arith)
-taken-some (word ∷ words) some = refl

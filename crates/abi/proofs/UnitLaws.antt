@@ -8,7 +8,8 @@ use lib.ListN.{get_or}
 use mir.Syntax.{w32}
 use mir.Val.{Fits}
 use Rattle.units.specs.declared.Calibration.{Calibration}
-use Rattle.units.specs.declared.Answer.TheVariants.{Value, Refused as NotConverted}
+use Rattle.std.proofs.Common.{Ok, Err}
+use Rattle.units.specs.declared.unconverted.Unconverted.TheVariants.{Unusable, Infinite}
 use Rattle.units.specs.Units.{is_finite, is_usable, product, in_units, converted}
 use Rattle.tables.specs.declared.Part.TheVariants.{Read as reading}
 use Rattle.tables.specs.View.{Tables, sound}
@@ -47,7 +48,7 @@ failed-small : (z : ℤ) (c : Calibration) (n : ℕ) → n < 2 ^ 32 → SmallIn 
 unfolding read_as converted
 failed-small z c n few = go (not (is_usable c)) (is_finite (product z c) && is_finite (in_units z c))
   where
-    go : (u b : Bool) → SmallIn (read_as (cond u (NotConverted 53) (cond b (Value (in_units z c)) (NotConverted 54))) n)
+    go : (u b : Bool) → SmallIn (read_as (cond u (Err Unusable) (cond b (Ok (in_units z c)) (Err Infinite))) n)
     go true b = omega arith
     go false true = few
     go false false = omega arith

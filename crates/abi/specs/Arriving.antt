@@ -1,9 +1,7 @@
 -- How words stand for the reply to a piece, and what the two calls for texts in pieces promise.
 -- Assumes nothing.
-use Rattle.std.specs.Prelude.{ℕ, ◌≡◌, List, [], ◌∷◌, get_or}
-use Rattle.pieces.specs.declared.Reply.{Reply}
-use Rattle.pieces.specs.declared.Reply.TheVariants.{More, Refused}
-use Rattle.pieces.specs.Pieces.{Took, Closed}
+use Rattle.std.specs.Prelude.{ℕ, ◌≡◌, List, [], ◌∷◌, get_or, Ok, Err}
+use Rattle.pieces.specs.Pieces.{Reply, Took, Closed}
 use Rattle.abi.specs.Words.{written}
 use Rattle.abi.specs.Loading.{TellsLoaded}
 
@@ -14,12 +12,12 @@ taken_of words = get_or words 0 8193
 
 -- 0, a refusal's number and its place, and 0; or 2 for "more"
 abbrev pub reply_words : Reply → List ℕ
-reply_words More = 2 ∷ 0 ∷ 0 ∷ 0 ∷ []
-reply_words (Refused number place) = 0 ∷ number ∷ place ∷ 0 ∷ []
+reply_words (Ok more) = 2 ∷ 0 ∷ 0 ∷ 0 ∷ []
+reply_words (Err refused) = 0 ∷ refused.number ∷ refused.place ∷ 0 ∷ []
 
 abbrev pub reply_number : Reply → ℕ
-reply_number More = 0
-reply_number (Refused number place) = number
+reply_number (Ok more) = 0
+reply_number (Err refused) = refused.number
 
 -- the reply, told in lent words
 pub record ToldReply (reply : Reply) (answer after : List ℕ) (number : ℕ) : Type 0 where

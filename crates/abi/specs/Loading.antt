@@ -1,15 +1,14 @@
 -- How words stand for the verdict of loading and for the answer of a lookup, and what the two calls promise.
 -- Assumes nothing.
-use Rattle.std.specs.Prelude.{ℕ, ◌^◌, ◌<◌, ◌≡◌, List, [], ◌∷◌, ◌++◌, ℤ, pos, negsuc}
-use Rattle.std.proofs.Math.Option.{Option, none, some}
-use Rattle.rules.specs.declared.names.Found.{Found}
-use Rattle.rules.specs.declared.names.Found.TheVariants.{At, Nothing}
-use Rattle.loader.specs.declared.whole.Verdict.{Verdict}
+use Rattle.std.specs.Prelude.{ℕ, ◌^◌, ◌<◌, ◌≡◌, List, [], ◌∷◌, ◌++◌, ℤ, pos, negsuc, Option, Some, None}
+use Rattle.std.proofs.Math.Option as number
+use Rattle.std.proofs.Math.Option.{none, some}
+use Rattle.loader.specs.Verdict.{Verdict}
 use Rattle.loader.specs.Load.{Loaded, refusal_of, values_of}
 use Rattle.abi.specs.Words.{written, or_zero}
 
 -- 0, a refusal's number and its place, and 0; or 1 and the counts of parameters, registers and variables
-abbrev pub told_by : Option ℕ → List ℕ → List ℕ
+abbrev pub told_by : number.Option ℕ → List ℕ → List ℕ
 told_by (some number) values = 0 ∷ values ++ 0 ∷ []
 told_by none values = 1 ∷ values
 
@@ -32,11 +31,11 @@ pub record TellsLoaded (l : Loaded) (answer : List ℕ) (parameters registers va
   pub told : ToldVerdict l.verdict answer after number
 
 -- the variable found, and -1 for none
-abbrev pub found_word : Found → ℤ
-found_word (At i) = pos i
-found_word Nothing = negsuc 0
+abbrev pub found_word : Option ℕ → ℤ
+found_word (Some i) = pos i
+found_word None = negsuc 0
 
 -- an index that fits a word
-abbrev pub Narrow : Found → Type 0
-Narrow (At i) = i < 2 ^ 32
-Narrow Nothing = Unit {0}
+abbrev pub Narrow : Option ℕ → Type 0
+Narrow (Some i) = i < 2 ^ 32
+Narrow None = Unit {0}

@@ -79,9 +79,8 @@ pub extern "C" fn desfanuk_take_piece(
 {
     let so_far = arriving::taken_of(taken);
     let took = pieces::take_piece(store, so_far, piece, parameters, registers, variables);
-    let reply = took.reply;
     arriving::keep(taken, took.taken);
-    arriving::tell_reply(reply, answer)
+    arriving::tell_reply(took.reply, answer)
 }
 
 // Ends a text in pieces and loads it. Four words of `answer` take the verdict.
@@ -103,9 +102,8 @@ pub extern "C" fn desfanuk_end_pieces(
 {
     let so_far = arriving::taken_of(taken);
     let ended = pieces::end_pieces(store, so_far, parameters, registers, variables);
-    let verdict = ended.verdict;
     arriving::keep(taken, ended.taken);
-    loading::tell_verdict(verdict, answer)
+    loading::tell_verdict(ended.verdict, answer)
 }
 
 // ---- the station

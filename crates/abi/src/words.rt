@@ -1,11 +1,9 @@
 // An operation taken from words, and an outcome told in words.
-ghost use Rattle.std.specs.Prelude.{◌≡◌, [], ◌∷◌, ◌<◌, ◌^◌, pos, set};
-ghost use Rattle.tables.specs.View.{part_no};
+ghost use Rattle.std.specs.Prelude.{◌≡◌, ◌<◌, ◌^◌, pos};
 ghost use Rattle.abi.specs.Words.{written, no_operation, of_kind, operation_of, operation_words, answer_words, refusal_number};
 ghost use Rattle.abi.specs.Told.{Told, Small, is_left};
 
 use station::{Access, Answer, Operation, Outcome};
-use tables::Part;
 
 // ---- the operation in hand
 
@@ -20,36 +18,27 @@ fn no_operation() -> Operation
     }
 }
 
+#[tactic(auto, unfolding(crate::specs::Words::of_kind))]
 fn of_kind(kind: u64, variable: usize, step: usize, bits: usize) -> Operation
     ensures { result ≡ of_kind kind variable step bits }
 {
-    if kind == 0 {
-        return Operation::Idle;
-    }
-    if kind == 1 {
-        return Operation::Reading {
+    match kind {
+        0 => Operation::Idle,
+        1 => Operation::Reading {
             variable,
             step,
             gathered: bits,
-        };
-    }
-    if kind == 2 {
-        return Operation::Writing {
+        },
+        2 => Operation::Writing {
             variable,
             step,
             value: bits,
-        };
+        },
+        _ => no_operation(),
     }
-    no_operation()
 }
 
-// A word as a number of the station's: a cast of its own, so that its proof asks nothing.
-fn number(word: u64) -> usize
-    ensures { result ≡ word }
-{
-    word as usize
-}
-
+#[tactic(auto, unfolding(crate::specs::Words::operation_of))]
 pub fn operation_of(words: &[u64]) -> Operation
     ensures { result ≡ operation_of words.now }
 {
@@ -58,68 +47,39 @@ pub fn operation_of(words: &[u64]) -> Operation
     }
     of_kind(
         words[0],
-        number(words[1]),
-        number(words[2]),
-        number(words[3]),
+        words[1] as usize,
+        words[2] as usize,
+        words[3] as usize,
     )
 }
 
-// Stores a word, if the slice has that place.
-pub fn put(words: &mut [u64], at: usize, word: u64)
-    ensures { words.new ≡ set words.old at word }
+// Writes words from a slice's front on; those that it has no room for are lost.
+pub fn write<T: Copy>(words: &mut [T], told: &[T])
+    ensures { words.new ≡ written told.now words.old }
 {
-    if at < words.len() {
-        words[at] = word;
-    }
-}
-
-// Four words: an operation, or a verdict.
-pub fn put_four(words: &mut [u64], kind: u64, first: usize, second: usize, third: usize)
-    ensures { words.new ≡ written (kind ∷ first ∷ second ∷ third ∷ []) words.old }
-{
-    put(words, 0, kind);
-    put(words, 1, first as u64);
-    put(words, 2, second as u64);
-    put(words, 3, third as u64);
+    let n = told.len().min(words.len());
+    words[..n].copy_from_slice(&told[..n]);
 }
 
 pub fn tell_operation(operation: Operation, words: &mut [u64])
     ensures { words.new ≡ written (operation_words operation) words.old }
 {
     match operation {
-        Operation::Idle => put_four(words, 0, 0, 0, 0),
+        Operation::Idle => write(words, &[0, 0, 0, 0]),
         Operation::Reading {
             variable,
             step,
             gathered,
-        } => put_four(words, 1, variable, step, gathered),
+        } => write(words, &[1, variable as u64, step as u64, gathered as u64]),
         Operation::Writing {
             variable,
             step,
             value,
-        } => put_four(words, 2, variable, step, value),
+        } => write(words, &[2, variable as u64, step as u64, value as u64]),
     }
 }
 
 // ---- the answer
-
-fn put_signed(words: &mut [i64], at: usize, word: i64)
-    ensures { words.new ≡ set words.old at word }
-{
-    if at < words.len() {
-        words[at] = word;
-    }
-}
-
-pub fn put_answer(words: &mut [i64], kind: i64, first: i64, second: i64, third: i64, fourth: i64)
-    ensures { words.new ≡ written (kind ∷ first ∷ second ∷ third ∷ fourth ∷ []) words.old }
-{
-    put_signed(words, 0, kind);
-    put_signed(words, 1, first);
-    put_signed(words, 2, second);
-    put_signed(words, 3, third);
-    put_signed(words, 4, fourth);
-}
 
 // A number of the station's as a word of an answer.
 pub fn signed(number: usize) -> i64
@@ -129,25 +89,15 @@ pub fn signed(number: usize) -> i64
     number as i64
 }
 
-fn part_number(part: Part) -> usize
-    ensures { (result ≡ part_no part) × (result < 2) }
-{
-    match part {
-        Part::Read => 0,
-        Part::Write => 1,
-    }
-}
-
 fn tell_offer(access: Access, words: &mut [i64])
     requires { Small (Answer.Offer access) }
     ensures { words.new ≡ written (answer_words (Answer.Offer access)) words.old }
 {
-    let part = access.direction;
-    let direction = signed(part_number(part));
+    let direction = signed(access.direction.number());
     let parameter = signed(access.parameter);
     let offset = signed(access.offset);
     let byte = signed(access.byte as usize);
-    put_answer(words, 2, direction, parameter, offset, byte);
+    write(words, &[2, direction, parameter, offset, byte]);
 }
 
 pub fn tell_answer(answer: Answer, words: &mut [i64])
@@ -155,13 +105,13 @@ pub fn tell_answer(answer: Answer, words: &mut [i64])
     ensures { words.new ≡ written (answer_words answer) words.old }
 {
     match answer {
-        Answer::Refused(number) => put_answer(words, 0, signed(number), 0, 0, 0),
-        Answer::Opened => put_answer(words, 1, 0, 0, 0, 0),
+        Answer::Refused(number) => write(words, &[0, signed(number), 0, 0, 0]),
+        Answer::Opened => write(words, &[1, 0, 0, 0, 0]),
         Answer::Offer(access) => tell_offer(access, words),
-        Answer::Done { value, accesses } => put_answer(words, 3, value, signed(accesses), 0, 0),
-        Answer::Abandoned => put_answer(words, 4, 0, 0, 0, 0),
+        Answer::Done { value, accesses } => write(words, &[3, value, signed(accesses), 0, 0]),
+        Answer::Abandoned => write(words, &[4, 0, 0, 0, 0]),
         Answer::Stopped { number, register } => {
-            put_answer(words, 5, signed(number), signed(register), 0, 0)
+            write(words, &[5, signed(number), signed(register), 0, 0])
         }
     }
 }
@@ -170,18 +120,8 @@ pub fn refusal_number(answer: Answer) -> usize
     ensures { result ≡ refusal_number answer }
 {
     match answer {
-        Answer::Refused(number) => number,
-        Answer::Opened => 0,
-        Answer::Offer(_) => 0,
-        Answer::Done {
-            value: _,
-            accesses: _,
-        } => 0,
-        Answer::Abandoned => 0,
-        Answer::Stopped {
-            number,
-            register: _,
-        } => number,
+        Answer::Refused(number) | Answer::Stopped { number, .. } => number,
+        Answer::Opened | Answer::Offer(_) | Answer::Done { .. } | Answer::Abandoned => 0,
     }
 }
 
@@ -189,35 +129,20 @@ pub fn refusal_number(answer: Answer) -> usize
 pub fn is_left(answer: Answer) -> bool
     ensures { result ≡ is_left answer }
 {
-    match answer {
-        Answer::Refused(_) => true,
-        Answer::Opened => false,
-        Answer::Offer(_) => false,
-        Answer::Done {
-            value: _,
-            accesses: _,
-        } => false,
-        Answer::Abandoned => false,
-        Answer::Stopped {
-            number: _,
-            register: _,
-        } => false,
-    }
+    matches!(answer, Answer::Refused(_))
 }
 
 // ---- the outcome
 
+#[tactic(auto, unfolding(crate::specs::Told::operation_left))]
 pub fn tell(outcome: Outcome, operation: &mut [u64], answer: &mut [i64]) -> u64
     requires { Small outcome.answer }
     ensures { Told outcome.answer outcome.operation operation.old answer.old
         operation.new answer.new result }
 {
-    let given = outcome.answer;
-    let next = outcome.operation;
-    let number = refusal_number(given);
-    tell_answer(given, answer);
-    if !is_left(given) {
-        tell_operation(next, operation);
+    tell_answer(outcome.answer, answer);
+    if !is_left(outcome.answer) {
+        tell_operation(outcome.operation, operation);
     }
-    number as u64
+    refusal_number(outcome.answer) as u64
 }

@@ -6,9 +6,7 @@
 
 ghost use Rattle.std.specs.Prelude.{◌≤◌};
 
-use frames::Frame;
-use loader::Verdict;
-use pieces::Reply;
+use loader::{Counts, Refused};
 use std::io;
 
 // What stands between two calls, beside the store.
@@ -18,37 +16,28 @@ struct Arriving {
     short: bool,
 }
 
-fn say(out: &mut impl io::Write, words: &[u8]) -> io::Result<()> {
-    out.write_all(words)
+fn tell_refused(out: &mut impl io::Write, refused: Refused) -> io::Result<()> {
+    let number = refused.number;
+    let place = refused.place;
+    writeln!(out, "refused {number} {place}")
 }
 
-fn number_after(out: &mut impl io::Write, words: &[u8], number: usize) -> io::Result<()> {
-    say(out, words)?;
-    write!(out, "{number}")
-}
-
-fn tell_refused(out: &mut impl io::Write, number: u32, place: usize) -> io::Result<()> {
-    number_after(out, b"refused ", number as usize)?;
-    number_after(out, b" ", place)?;
-    say(out, b"\n")
-}
-
-fn tell_reply(out: &mut impl io::Write, reply: Reply) -> io::Result<()> {
+fn tell_reply(out: &mut impl io::Write, reply: Result<(), Refused>) -> io::Result<()> {
     match reply {
-        Reply::More => say(out, b"more\n"),
-        Reply::Refused(number, place) => tell_refused(out, number, place),
+        Ok(()) => writeln!(out, "more"),
+        Err(refused) => tell_refused(out, refused),
     }
 }
 
-fn tell_verdict(out: &mut impl io::Write, verdict: Verdict) -> io::Result<()> {
+fn tell_verdict(out: &mut impl io::Write, verdict: Result<Counts, Refused>) -> io::Result<()> {
     match verdict {
-        Verdict::Accepted(parameters, registers, variables) => {
-            number_after(out, b"accepted ", parameters as usize)?;
-            number_after(out, b" ", registers as usize)?;
-            number_after(out, b" ", variables as usize)?;
-            say(out, b"\n")
+        Ok(counts) => {
+            let parameters = counts.parameters;
+            let registers = counts.registers;
+            let variables = counts.variables;
+            writeln!(out, "accepted {parameters} {registers} {variables}")
         }
-        Verdict::Refused(number, place) => tell_refused(out, number, place),
+        Err(refused) => tell_refused(out, refused),
     }
 }
 
@@ -56,10 +45,11 @@ fn tell_verdict(out: &mut impl io::Write, verdict: Verdict) -> io::Result<()> {
 fn lent(length: usize, short: bool) -> usize
     ensures { result ≤ length }
 {
-    if length == 0 {
-        return 0;
+    if short {
+        length.saturating_sub(1)
+    } else {
+        length
     }
-    if short { length - 1 } else { length }
 }
 
 fn take(
@@ -71,8 +61,7 @@ fn take(
     variables: &[u32],
     now: Arriving,
 ) -> io::Result<Arriving> {
-    let short = now.short;
-    let part = lent(store.len(), short);
+    let part = lent(store.len(), now.short);
     let took = pieces::take_piece(
         &mut store[..part],
         now.taken,
@@ -81,11 +70,10 @@ fn take(
         registers,
         variables,
     );
-    let reply = took.reply;
-    tell_reply(out, reply)?;
+    tell_reply(out, took.reply)?;
     Ok(Arriving {
         taken: took.taken,
-        short,
+        ..now
     })
 }
 
@@ -97,37 +85,28 @@ fn end(
     variables: &mut [u32],
     now: Arriving,
 ) -> io::Result<Arriving> {
-    let short = now.short;
-    let part = lent(store.len(), short);
+    let part = lent(store.len(), now.short);
     let ended = pieces::end_pieces(&store[..part], now.taken, parameters, registers, variables);
-    let verdict = ended.verdict;
-    tell_verdict(out, verdict)?;
+    tell_verdict(out, ended.verdict)?;
     Ok(Arriving {
         taken: ended.taken,
-        short,
+        ..now
     })
 }
 
 fn lend(out: &mut impl io::Write, what: &[u8], now: Arriving) -> io::Result<Arriving> {
     let short = script::is(what, b"short");
-    if short | script::is(what, b"all") {
-        say(out, b"lent\n")?;
-        return Ok(Arriving {
-            taken: now.taken,
-            short,
-        });
+    if short || script::is(what, b"all") {
+        writeln!(out, "lent")?;
+        return Ok(Arriving { short, ..now });
     }
-    say(out, b"unknown\n")?;
+    writeln!(out, "unknown")?;
     Ok(now)
 }
 
 // Whether a line asks for nothing: it has no word, or is a comment.
 fn is_skipped(first: &[u8]) -> bool {
-    if 0 < first.len() {
-        first[0] == b';'
-    } else {
-        true
-    }
+    first.is_empty() || first[0] == b';'
 }
 
 // A line that heads no piece.
@@ -146,14 +125,14 @@ fn hear(
     }
     let tail = script::rest(line);
     let second = script::word(tail);
-    if script::is(first, b"end") & (second.len() == 0) {
+    if script::is(first, b"end") && second.is_empty() {
         return end(out, store, parameters, registers, variables, now);
     }
     let third = script::word(script::rest(tail));
-    if script::is(first, b"lend") & (third.len() == 0) {
+    if script::is(first, b"lend") && third.is_empty() {
         return lend(out, second, now);
     }
-    say(out, b"unknown\n")?;
+    writeln!(out, "unknown")?;
     Ok(now)
 }
 
@@ -172,19 +151,15 @@ fn run(
     };
     let mut at = 0;
     while at < calls.len() {
-        let frame = frames::headed_at(calls, at, b"piece");
-        match frame {
-            Frame::Text { start, end, next } => {
-                let piece = &calls[start..end];
-                now = take(out, piece, store, parameters, registers, variables, now)?;
-                at = next;
-            }
-            Frame::Nothing => {
-                let to = script::line_end(calls, at);
-                let line = &calls[at..to];
-                now = hear(out, line, store, parameters, registers, variables, now)?;
-                at = to + 1;
-            }
+        if let Some(frame) = frames::headed_at(calls, at, b"piece") {
+            let piece = &calls[frame.start..frame.end];
+            now = take(out, piece, store, parameters, registers, variables, now)?;
+            at = frame.next;
+        } else {
+            let to = script::line_end(calls, at);
+            let line = &calls[at..to];
+            now = hear(out, line, store, parameters, registers, variables, now)?;
+            at = to + 1;
         }
     }
     Ok(())
@@ -209,16 +184,11 @@ fn play(out: &mut impl io::Write, calls: &[u8]) -> io::Result<()> {
 // Framed scripts, one after the other, and where they end. A frame ends after it began, so the loop does.
 fn play_framed(out: &mut impl io::Write, input: &[u8]) -> io::Result<usize> {
     let mut at = 0;
-    loop {
-        let frame = frames::frame_at(input, at);
-        match frame {
-            Frame::Text { start, end, next } => {
-                play(out, &input[start..end])?;
-                at = next;
-            }
-            Frame::Nothing => return Ok(at),
-        }
+    while let Some(frame) = frames::frame_at(input, at) {
+        play(out, &input[frame.start..frame.end])?;
+        at = frame.next;
     }
+    Ok(at)
 }
 
 fn main(rt: HostRuntime) -> io::Result<()> {

@@ -1,11 +1,10 @@
 -- The values of a kind and a width w, and the patterns of w bits that carry them. Kind 1 is `signed int`, two's
 -- complement;
 -- `int` (0) and `bool` (2) are natural numbers.
-use Rattle.std.specs.Prelude.{ℕ, ◌-◌, ◌/◌, ◌^◌, Bool, cond, ◌&&◌, ltb, eqb, ℤ, pos, negsuc, neg_ℤ}
+use Rattle.std.specs.Prelude.{ℕ, ◌-◌, ◌/◌, ◌^◌, Bool, cond, ◌&&◌, ltb, eqb, Option, ℤ, pos, negsuc, neg_ℤ}
+use Rattle.std.specs.Bool.{then_some}
 use Rattle.std.proofs.Math.IntN.{pred_ℤ}
 use Rattle.std.specs.Int.Signed.{lt_z}
-use Rattle.bits.specs.declared.values.Encoded.{Encoded}
-use Rattle.bits.specs.declared.values.Encoded.TheVariants.{Pattern, Outside}
 
 -- the first natural number that the kind of value does not have
 abbrev pub limit_of : ℕ → ℕ → ℕ
@@ -38,5 +37,5 @@ unfoldable pub decode : ℕ → ℕ → ℕ → ℤ
 decode kind w x = cond (ltb x (limit_of kind w)) (pos x) (negsuc (2 ^ w - 1 - x))
 
 -- the pattern, or that there is none
-unfoldable pub encoded : ℕ → ℕ → ℤ → Encoded
-encoded kind w z = cond (in_range kind w z) (Pattern (encode w z)) Outside
+unfoldable pub encoded : ℕ → ℕ → ℤ → Option ℕ
+encoded kind w z = then_some (in_range kind w z) (encode w z)

@@ -1,15 +1,10 @@
-// Values of a kind and a width, as i64, and the patterns of bits that carry them.
+// Values of a kind and a width, as i64, and the patterns of bits that carry them. A kind is a number here: it is a word
+// of a lent table, which may be any, and every function is proved for all of them.
 ghost use Rattle.std.specs.Prelude.{◌≡◌, ◌≤◌, ◌<◌, ◌^◌, negsuc, pos, ◌<ℤ◌};
 ghost use Rattle.bits.specs.Values.{limit_of, encoded, decode};
 ghost use Rattle.bits.specs.Widths.{widest};
 
 use crate::power;
-
-#[derive(Clone, Copy)]
-pub enum Encoded {
-    Pattern(usize),
-    Outside,
-}
 
 // The first natural number that the kind of value does not have.
 fn limit(kind: usize, width: usize) -> usize
@@ -20,26 +15,22 @@ fn limit(kind: usize, width: usize) -> usize
     if kind == 1 { whole / 2 } else { whole }
 }
 
-fn encode_natural(kind: usize, width: usize, m: usize) -> Encoded
+fn encode_natural(kind: usize, width: usize, m: usize) -> Option<usize>
     requires { width ≤ widest }
     ensures { result ≡ encoded kind width (pos m) }
 {
-    if m < limit(kind, width) {
-        Encoded::Pattern(m)
-    } else {
-        Encoded::Outside
-    }
+    (m < limit(kind, width)).then_some(m)
 }
 
 // Of the value -(m + 1).
-fn encode_negative(kind: usize, width: usize, m: usize) -> Encoded
+fn encode_negative(kind: usize, width: usize, m: usize) -> Option<usize>
     requires { width ≤ widest }
     ensures { result ≡ encoded kind width (negsuc m) }
 {
     if (kind == 1) & (m < limit(kind, width)) {
-        Encoded::Pattern(power(width) - 1 - m)
+        Some(power(width) - 1 - m)
     } else {
-        Encoded::Outside
+        None
     }
 }
 
@@ -51,7 +42,8 @@ fn below_zero(value: i64) -> usize
     (-1 - value) as usize
 }
 
-pub fn encode(kind: usize, width: usize, value: i64) -> Encoded
+// The pattern that carries a value, where it is in range.
+pub fn encode(kind: usize, width: usize, value: i64) -> Option<usize>
     requires { width ≤ widest }
     ensures { result ≡ encoded kind width value }
 {

@@ -1,15 +1,17 @@
 -- Readings in units leave the station as raw ones do, and 54 is given in place of done alone. Assumes nothing.
 use Prim.Native.Nat.{ℕ, suc}
 use native.Mathlib.Omega.{arith}
-use mathlib.Core.Path.{◌≡◌, refl, sym, ap, ◌∙◌}
+use mathlib.Core.Path.{◌≡◌, refl, ap, ◌∙◌}
 use mathlib.Core.Bool.{Bool, true, false, cond, ◌&&◌, ◌||◌}
 use mathlib.Core.Logic.{◌⊎◌, inl, inr}
 use lib.IntN.{ℤ}
 use mathlib.Core.List.{List, []}
 use Rattle.logic.proofs.Tests.{and_left}
 use Rattle.units.specs.declared.Calibration.{Calibration}
-use Rattle.units.specs.declared.Answer.{Answer as Converted}
-use Rattle.units.specs.declared.Answer.TheVariants.{Value, Refused as NotConverted}
+use Rattle.std.proofs.Common.{Result, Ok, Err, Float}
+use Rattle.units.specs.declared.unconverted.Unconverted.{Unconverted}
+use Rattle.units.specs.declared.unconverted.Unconverted.TheVariants.{Infinite}
+use Rattle.units.specs.Unconverted.{number_of}
 use Rattle.units.specs.Units.{is_finite, is_usable, product, in_units, converted}
 use Rattle.tables.specs.View.{Tables, obeys}
 use Rattle.station.specs.declared.Operation.{Operation}
@@ -60,12 +62,14 @@ record Failed (c : Calibration) (units : Bool) (answer : Answer) (n : ℕ) : Typ
   value : ℤ
   accesses : ℕ
   was-done : answer ≡ Done value accesses
-  not-converted : converted value c ≡ NotConverted n
+  why : Unconverted
+  not-converted : converted value c ≡ Err why
+  by-number : n ≡ number_of why
 
-failed-by : (a : Converted) (accesses n : ℕ) → read_as a accesses ≡ Over n → a ≡ NotConverted n
+failed-by : (a : Result Float Unconverted) (accesses n : ℕ) → read_as a accesses ≡ Over n → (why : Unconverted) × (a ≡ Err why) × (n ≡ number_of why)
 unfolding read_as over_by
-failed-by (Value x) accesses n e = let k : 0 ≡ suc n = ap over_by e in absurd (omega arith)
-failed-by (NotConverted m) accesses n e = let k : suc m ≡ suc n = ap over_by e in ap NotConverted (omega arith)
+failed-by (Ok x) accesses n e = let k : 0 ≡ suc n = ap over_by e in absurd (omega arith)
+failed-by (Err why) accesses n e = let k : suc (number_of why) ≡ suc n = ap over_by e in (why, refl, omega arith)
 
 over_when : (c : Calibration) (op : Operation) (answer : Answer) (variables : List ℕ) (n : ℕ) (b : Bool) (left : State) (s : State) → (is_refused answer || units_for op variables c) ≡ b
     → (cond {A = Told} b (record { answer = answer_for op c answer; state = left }) (record { answer = Same (Refused 53); state = s })).answer ≡ Over n
@@ -75,7 +79,18 @@ over_when c op answer variables n false left s is e = absurd (same-not-over (Ref
 over_when c Idle answer variables n true left s is e = absurd (same-not-over answer n e)
 over_when c (Writing v step x) answer variables n true left s is e = absurd (same-not-over answer n e)
 over_when c (Reading v step g) (Done value accesses) variables n true left s is e =
-    (record { had_units = and_left (is_usable c) (is_numeric variables v) is; value = value; accesses = accesses; was-done = refl; not-converted = failed-by (converted value c) accesses n e }, refl)
+    let f = failed-by (converted value c) accesses n e in (
+      record {
+        had_units = and_left (is_usable c) (is_numeric variables v) is;
+        value = value;
+        accesses = accesses;
+        was-done = refl;
+        why = f.0;
+        not-converted = f.1;
+        by-number = f.2;
+      },
+      refl,
+    )
 over_when c (Reading v step g) (Offered a) variables n true left s is e = absurd (same-not-over (Offered a) n e)
 over_when c (Reading v step g) Opened variables n true left s is e = absurd (same-not-over Opened n e)
 over_when c (Reading v step g) Ended variables n true left s is e = absurd (same-not-over Ended n e)
@@ -83,21 +98,13 @@ over_when c (Reading v step g) (Refused m) variables n true left s is e = absurd
 over_when c (Reading v step g) (Stopped m r) variables n true left s is e = absurd (same-not-over (Stopped m r) n e)
 
 -- a calibration with units can only fail by what the reading makes of it
-fails-by_54 : (z : ℤ) (c : Calibration) (n : ℕ) → is_usable c ≡ true → converted z c ≡ NotConverted n → n ≡ 54
+fails-infinite : (z : ℤ) (c : Calibration) {why : Unconverted} → is_usable c ≡ true → converted z c ≡ Err why → why ≡ Infinite
 unfolding converted
-fails-by_54 z c n usable e = go (is_finite (product z c) && is_finite (in_units z c)) (rw usable at e)
+fails-infinite z c {why} usable e = go (is_finite (product z c) && is_finite (in_units z c)) (rw usable at e)
   where
-    number_not : Converted → ℕ
-    number_not (Value x) = 0
-    number_not (NotConverted m) = m
-
-    whether : Converted → ℕ
-    whether (Value x) = 0
-    whether (NotConverted m) = 1
-
-    go : (b : Bool) → cond b (Value (in_units z c)) (NotConverted 54) ≡ NotConverted n → n ≡ 54
-    go true f = let k : ◌≡◌ {A = ℕ} 0 1 = ap whether f in absurd (omega arith)
-    go false f = sym (ap number_not f)
+    go : (b : Bool) → cond b (Ok (in_units z c)) (Err Infinite) ≡ Err why → why ≡ Infinite
+    go true f = absurd cc
+    go false f = cc
 
 -- ── done ends the operation ──
 
@@ -145,13 +152,13 @@ module _ (sound : Tables → Bool) (t : Tables) (s : State) (byte : ℕ) where
       let o : Outcome = confirm sound t s byte in
       let all = over_when c s.operation o.answer t.variables n (is_refused o.answer || units_for s.operation t.variables c) o.state s refl e in
       let f = all.0 in
-      let is : n ≡ 54 = fails-by_54 f.value c n f.had_units f.not-converted in
+      let infinite = fails-infinite f.value c f.had_units f.not-converted in
       record {
-        is_54 = is;
+        is_54 = f.by-number ∙ ap number_of infinite;
         value = f.value;
         accesses = f.accesses;
         was-done = f.was-done;
-        not_finite = f.not-converted ∙ ap NotConverted is;
+        not_finite = f.not-converted ∙ ap Err infinite;
         is-over = rw all.1 (confirm-ends (ap is_done f.was-done));
       }
 

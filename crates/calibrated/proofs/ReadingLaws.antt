@@ -1,23 +1,22 @@
 -- Laws of readings in units at the station. Assumes nothing.
-use Prim.Native.Nat.{ℕ, suc, ◌≤◌, ◌<◌}
-use native.Mathlib.Omega.{arith}
-use lib.Dec.{leb, ltb, eqb}
+use Prim.Native.Nat.{ℕ, suc}
+use lib.Dec.{ltb, eqb}
 use lib.IntN.{ℤ}
-use borrow.Author.Tests.{le-ltb, lt-ltb, not-true}
+use borrow.Author.Tests.{not-true}
 use mathlib.Core.Path.{◌≡◌, refl, sym, ap, ◌∙◌, subst}
 use mathlib.Core.Bool.{Bool, true, false, cond, not, ◌&&◌, ◌||◌, false≢true}
 use mathlib.Core.List.{List, [], ◌∷◌, ◌++◌}
 use Rattle.units.specs.declared.Calibration.{Calibration}
-use Rattle.units.specs.declared.Answer.{Answer as Converted}
+use Rattle.std.proofs.Common.{Result, Float}
+use Rattle.units.specs.declared.unconverted.Unconverted.{Unconverted}
 use Rattle.units.specs.Units.{converted}
-use Rattle.tables.specs.Tables.{count_of, kind_of}
 use Rattle.tables.specs.declared.Part.TheVariants.{Read as reading, Write as writing}
 use Rattle.tables.specs.View.{Tables, variable_count, variable_has}
 use Rattle.logic.proofs.Tests.{and_left, and_right}
 use Rattle.station.specs.declared.Operation.{Operation}
 use Rattle.station.specs.declared.Operation.TheVariants.{Idle, Reading, Writing}
 use Rattle.station.specs.declared.Answer.{Answer}
-use Rattle.station.specs.declared.Answer.TheVariants.{Refused}
+use Rattle.station.specs.declared.Answer.TheVariants.{Refused, Stopped, Opened, Offer as Offered, Done, Abandoned as Ended}
 use Rattle.station.specs.declared.Outcome as Station
 use Rattle.station.specs.Calls.{State, Outcome, Test, refused, unless, is_in_hand, is_long, is_allowed, is_last, mark_of, register_taken, write_access, keeping, write_on, confirmed, read_tests, begun_read, begin_read, confirm}
 use Rattle.station.specs.Kept.{SameLists}
@@ -25,7 +24,7 @@ use Rattle.station.specs.Promise.{lent, Meets}
 use Rattle.station.proofs.KeptLaws.{keeps}
 use Rattle.calibrated.specs.declared.InUnits.{InUnits}
 use Rattle.calibrated.specs.declared.OutcomeInUnits as Code
-use Rattle.calibrated.specs.Readings.{is_refused, is_numeric, has_units, read_as, done_in, number_in, reading_in, begin_in_units, Told, told_for, units_for, answer_for, outcome_for, is_write, is_early, units_refused, refused_by, confirm_in_units, MeetsInUnits}
+use Rattle.calibrated.specs.Readings.{is_refused, has_units, read_as, done_in, in_units_of, number_in, reading_in, begin_in_units, Told, told_for, units_for, answer_for, outcome_for, is_write, is_early, units_refused, refused_by, confirm_in_units, MeetsInUnits}
 
 -- ── a begin ──
 
@@ -49,14 +48,16 @@ by_cases sound t s v c = one_more_lem (read_tests sound t s v) (has_units t.vari
 
 -- for the code: the two tests, and what each way out answers
 module _ (sound : Tables → Bool) (t : Tables) (kept marks : List ℕ) (op : Operation) (v : ℕ) (c : Calibration) {given : Station.Outcome}
-    (meets : Meets (begin_read sound t (lent kept marks op) v) kept marks given) {r u : Bool} (r-is : r ≡ is_refused given.answer) (u-is : u ≡ has_units t.variables v c) where
-  decided : {b : Bool} → (r || u) ≡ b → begin_in_units sound t (lent kept marks op) v c ≡ cond b (begin_read sound t (lent kept marks op) v) (refused 53 (lent kept marks op))
-  decided tested = by_cases sound t (lent kept marks op) v c ∙ rw (← meets.answer-is, ← r-is, ← u-is, tested)
+    (meets : Meets (begin_read sound t (lent kept marks op) v) kept marks given) where
+  decided : {b : Bool} → (is_refused given.answer || has_units t.variables v c) ≡ b
+      → begin_in_units sound t (lent kept marks op) v c ≡ cond b (begin_read sound t (lent kept marks op) v) (refused 53 (lent kept marks op))
+  decided tested = by_cases sound t (lent kept marks op) v c ∙ rw (← meets.answer-is, tested)
 
-  pub read-begun : (r || u) ≡ true → Meets (begin_in_units sound t (lent kept marks op) v c) kept marks given
+  pub read-begun : (is_refused given.answer || has_units t.variables v c) ≡ true → Meets (begin_in_units sound t (lent kept marks op) v c) kept marks given
   read-begun tested = subst (λ (o : Outcome). Meets o kept marks given) (sym (decided tested)) meets
 
-  pub without-units : (r || u) ≡ false → Meets (begin_in_units sound t (lent kept marks op) v c) kept marks (record { operation = op; answer = Refused 53 })
+  pub without-units : (is_refused given.answer || has_units t.variables v c) ≡ false
+      → Meets (begin_in_units sound t (lent kept marks op) v c) kept marks (record { operation = op; answer = Refused 53 })
   without-units tested =
       subst (λ (o : Outcome). Meets o kept marks (record { operation = op; answer = Refused 53 })) (sym (decided tested))
       (record { answer-is = refl; number_is = refl; values_are = refl; operation-is = refl; kept-is = refl; marks-is = refl })
@@ -192,14 +193,16 @@ module _ (sound : Tables → Bool) (t : Tables) (held marked : List ℕ) (byte :
 
 -- ── for the code ──
 
-pub not_there : (variables : List ℕ) (v n : ℕ) → n ≡ count_of variables → n ≤ v → false ≡ is_numeric variables v
-unfolding is_numeric
-not_there variables v n is over = rw (le-ltb v (count_of variables) (omega arith))
-
-pub there : (variables : List ℕ) (v n k : ℕ) → n ≡ count_of variables → v < n → k ≡ kind_of variables v → leb k 1 ≡ is_numeric variables v
-unfolding is_numeric
-there variables v n k is within kind = rw (lt-ltb v (count_of variables) (omega arith), kind)
-
-pub done-as : (z value : ℤ) (n : ℕ) (c : Calibration) (a : Converted) → a ≡ converted z c → z ≡ value → read_as a n ≡ done_in value n c
+pub done-as : (z value : ℤ) (n : ℕ) (c : Calibration) (a : Result Float Unconverted) → a ≡ converted z c → z ≡ value → read_as a n ≡ done_in value n c
 unfolding done_in
-done-as z value n c a is same = ap (λ (x : Converted). read_as x n) (is ∙ ap (λ (y : ℤ). converted y c) same)
+done-as z value n c a is same = ap (λ (x : Result Float Unconverted). read_as x n) (is ∙ ap (λ (y : ℤ). converted y c) same)
+
+-- an answer that is not done is the station's
+pub same-unless-done : (c : Calibration) (answer : Answer) → ((z : ℤ) (n : ℕ) → answer ≡ Done z n → ⊥) → InUnits.Same answer ≡ in_units_of c answer
+unfolding in_units_of
+same-unless-done c (Offered a) none = refl
+same-unless-done c (Done z n) none = absurd (none z n refl)
+same-unless-done c Opened none = refl
+same-unless-done c Ended none = refl
+same-unless-done c (Refused n) none = refl
+same-unless-done c (Stopped n r) none = refl

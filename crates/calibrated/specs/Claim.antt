@@ -1,7 +1,7 @@
 -- What is promised of readings in units at the station, of any tables, any state and any calibration (02, No. 10).
-use Rattle.std.specs.Prelude.{ℕ, ◌≡◌, Bool, ◌⊎◌, [], ◌∷◌, ℤ}
+use Rattle.std.specs.Prelude.{ℕ, ◌≡◌, Bool, ◌⊎◌, [], ◌∷◌, ℤ, Err}
 use Rattle.units.specs.declared.Calibration.{Calibration}
-use Rattle.units.specs.declared.Answer.TheVariants.{Refused as NotConverted}
+use Rattle.units.specs.declared.unconverted.Unconverted.TheVariants.{Infinite}
 use Rattle.units.specs.Units.{converted}
 use Rattle.tables.specs.View.{Tables}
 use Rattle.station.specs.declared.Operation.TheVariants.{Idle}
@@ -17,7 +17,7 @@ pub record OverBy (sound : Tables → Bool) (t : Tables) (s : State) (byte : ℕ
   pub value : ℤ
   pub accesses : ℕ
   pub was-done : (confirm sound t s byte).answer ≡ Done value accesses
-  pub not_finite : converted value c ≡ NotConverted 54
+  pub not_finite : converted value c ≡ Err Infinite
   pub is-over : (confirm_in_units sound t s byte c).state.operation ≡ Idle
 
 pub record AtTheStation (sound : Tables → Bool) (t : Tables) (s : State) (c : Calibration) : Type 0 where

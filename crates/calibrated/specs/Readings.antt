@@ -1,9 +1,9 @@
 -- Readings in units at the station (02, No. 10): the two calls, over those of document 01, which stay as they are.
-use Rattle.std.specs.Prelude.{ℕ, ◌≡◌, Bool, true, false, cond, not, ◌&&◌, ◌||◌, List, [], ◌∷◌, ◌++◌, leb, ltb, Float, ℤ}
+use Rattle.std.specs.Prelude.{ℕ, ◌≡◌, Bool, true, false, cond, not, ◌&&◌, ◌||◌, List, [], ◌∷◌, ◌++◌, leb, ltb, Float, ℤ, Result, Ok, Err}
 use Rattle.std.proofs.Math.Option.{Option, none, some}
 use Rattle.units.specs.declared.Calibration.{Calibration}
-use Rattle.units.specs.declared.Answer.{Answer as Converted}
-use Rattle.units.specs.declared.Answer.TheVariants.{Value, Refused as NotConverted}
+use Rattle.units.specs.declared.unconverted.Unconverted.{Unconverted}
+use Rattle.units.specs.Unconverted.{number_of}
 use Rattle.units.specs.Units.{is_usable, converted}
 use Rattle.tables.specs.Tables.{count_of, kind_of}
 use Rattle.tables.specs.View.{Tables}
@@ -31,9 +31,9 @@ has_units variables v c = is_usable c && is_numeric variables v
 -- ── the answers ──
 
 -- "The answer is the reading .."; "a product or sum not finite is refused after the read is done"
-unfoldable pub read_as : Converted → ℕ → InUnits
-read_as (Value x) accesses = Read x accesses
-read_as (NotConverted n) accesses = Over n
+unfoldable pub read_as : Result Float Unconverted → ℕ → InUnits
+read_as (Ok x) accesses = Read x accesses
+read_as (Err why) accesses = Over (number_of why)
 
 unfoldable pub done_in : ℤ → ℕ → Calibration → InUnits
 done_in value accesses c = read_as (converted value c) accesses

@@ -7,11 +7,14 @@ ghost use Rattle.std.specs.Prelude.{◌≡◌};
 ghost use Rattle.tables.specs.View.{sound};
 ghost use Rattle.station.specs.Standing.{tables_of};
 ghost use Rattle.station.specs.Promise.{lent, Meets};
-ghost use Rattle.calibrated.specs.Readings.{is_refused, is_numeric, has_units, units_for, in_units_of, done_in, answer_for, outcome_for, is_early, is_write, units_refused, refused_by, begin_in_units, confirm_in_units, MeetsInUnits};
+ghost use Rattle.calibrated.specs.Readings.{is_refused, is_numeric, has_units, units_for, done_in, answer_for, outcome_for, is_early, is_write, units_refused, refused_by, begin_in_units, confirm_in_units, MeetsInUnits};
 
 use station::{Answer, Operation, Outcome};
 use tables::words::word;
 use units::Calibration;
+
+// There are no units: the calibration is not finite, or the variable not numeric.
+const NO_UNITS: usize = 53;
 
 // Done gives the reading in units, or is refused and over all the same; every other answer is the station's.
 #[derive(Clone, Copy)]
@@ -30,39 +33,24 @@ pub struct OutcomeInUnits {
 // ---- whether there are units
 
 // Whether a variable is there, and an `int` or a `signed int`.
+#[tactic(auto, unfolding(crate::specs::Readings::is_numeric))]
 fn is_numeric(variables: &[u32], v: usize) -> bool
     ensures { result ≡ is_numeric variables.now v }
 {
-    let count = word(variables, 0);
-    if count <= v {
-        return false;
-    }
-    word(variables, 59 * v + 1 + 2) <= 1
+    v < word(variables, 0) && word(variables, 59 * v + 1 + 2) <= 1
 }
 
+#[tactic(auto, unfolding(crate::specs::Readings::has_units))]
 fn has_units(variables: &[u32], v: usize, calibration: Calibration) -> bool
     ensures { result ≡ has_units variables.now v calibration }
 {
-    units::is_usable(calibration) & is_numeric(variables, v)
+    units::is_usable(calibration) && is_numeric(variables, v)
 }
 
 fn is_refused(answer: Answer) -> bool
     ensures { result ≡ is_refused answer }
 {
-    match answer {
-        Answer::Offer(_) => false,
-        Answer::Done {
-            value: _,
-            accesses: _,
-        } => false,
-        Answer::Opened => false,
-        Answer::Abandoned => false,
-        Answer::Refused(_) => true,
-        Answer::Stopped {
-            number: _,
-            register: _,
-        } => true,
-    }
+    matches!(answer, Answer::Refused(_) | Answer::Stopped { .. })
 }
 
 // ---- the calls
@@ -87,57 +75,33 @@ pub fn begin_read_in_units(
         held.now marks.now result }
 {
     let begun = station::begin_read(parameters, registers, variables, held, marks, operation, v);
-    let answer = begun.answer;
-    if is_refused(answer) | has_units(variables, v, calibration) {
+    if is_refused(begun.answer) || has_units(variables, v, calibration) {
         return begun;
     }
     Outcome {
         operation,
-        answer: Answer::Refused(53),
+        answer: Answer::Refused(NO_UNITS),
     }
 }
 
 fn done_in(value: i64, accesses: usize, calibration: Calibration) -> InUnits
     ensures { result ≡ done_in value accesses calibration }
 {
-    let result = units::convert(value, calibration);
-    match result {
-        units::Answer::Value(x) => InUnits::Reading { value: x, accesses },
-        units::Answer::Refused(number) => InUnits::Stopped(number),
+    match units::convert(value, calibration) {
+        Ok(value) => InUnits::Reading { value, accesses },
+        Err(why) => InUnits::Stopped(why.number()),
     }
 }
 
-fn in_units(answer: Answer, calibration: Calibration) -> InUnits
-    ensures { result ≡ in_units_of calibration answer }
-{
-    match answer {
-        Answer::Offer(access) => InUnits::Same(Answer::Offer(access)),
-        Answer::Done { value, accesses } => done_in(value, accesses, calibration),
-        Answer::Opened => InUnits::Same(Answer::Opened),
-        Answer::Abandoned => InUnits::Same(Answer::Abandoned),
-        Answer::Refused(number) => InUnits::Same(Answer::Refused(number)),
-        Answer::Stopped { number, register } => {
-            InUnits::Same(Answer::Stopped { number, register })
-        }
-    }
-}
-
-// The answer to a confirmation: only a read brings a reading.
+// The answer to a confirmation: only a read brings a reading, and only when it is done.
 fn answer_for(operation: Operation, calibration: Calibration, answer: Answer) -> InUnits
     ensures { result ≡ answer_for operation calibration answer }
 {
-    match operation {
-        Operation::Idle => InUnits::Same(answer),
-        Operation::Reading {
-            variable: _,
-            step: _,
-            gathered: _,
-        } => in_units(answer, calibration),
-        Operation::Writing {
-            variable: _,
-            step: _,
-            value: _,
-        } => InUnits::Same(answer),
+    match (operation, answer) {
+        (Operation::Reading { .. }, Answer::Done { value, accesses }) => {
+            done_in(value, accesses, calibration)
+        }
+        _ => InUnits::Same(answer),
     }
 }
 
@@ -150,17 +114,15 @@ fn told_for(
 ) -> OutcomeInUnits
     ensures { result ≡ outcome_for units operation calibration outcome }
 {
-    let answer = outcome.answer;
-    let after = outcome.operation;
-    if is_refused(answer) | units {
+    if is_refused(outcome.answer) || units {
         return OutcomeInUnits {
-            operation: after,
-            answer: answer_for(operation, calibration, answer),
+            operation: outcome.operation,
+            answer: answer_for(operation, calibration, outcome.answer),
         };
     }
     OutcomeInUnits {
         operation,
-        answer: InUnits::Same(Answer::Refused(53)),
+        answer: InUnits::Same(Answer::Refused(NO_UNITS)),
     }
 }
 
@@ -168,20 +130,7 @@ fn told_for(
 fn is_early(answer: Answer) -> bool
     ensures { result ≡ is_early answer }
 {
-    match answer {
-        Answer::Offer(_) => false,
-        Answer::Done {
-            value: _,
-            accesses: _,
-        } => false,
-        Answer::Opened => false,
-        Answer::Abandoned => false,
-        Answer::Refused(number) => number < 23,
-        Answer::Stopped {
-            number: _,
-            register: _,
-        } => false,
-    }
+    matches!(answer, Answer::Refused(number) if number < 23)
 }
 
 // Refuses by 20 to 22, or else by 53, and records nothing: a begin, which changes nothing, makes the same tests first.
@@ -199,35 +148,21 @@ fn refuse_units(
         (lent held.now marks.now operation)) }
 {
     let begun = station::begin_read(parameters, registers, variables, held, marks, operation, 0);
-    let answer = begun.answer;
-    if is_early(answer) {
-        return OutcomeInUnits {
-            operation,
-            answer: InUnits::Same(answer),
-        };
-    }
+    let answer = if is_early(begun.answer) {
+        begun.answer
+    } else {
+        Answer::Refused(NO_UNITS)
+    };
     OutcomeInUnits {
         operation,
-        answer: InUnits::Same(Answer::Refused(53)),
+        answer: InUnits::Same(answer),
     }
 }
 
 fn is_write(operation: Operation) -> bool
     ensures { result ≡ is_write operation }
 {
-    match operation {
-        Operation::Idle => false,
-        Operation::Reading {
-            variable: _,
-            step: _,
-            gathered: _,
-        } => false,
-        Operation::Writing {
-            variable: _,
-            step: _,
-            value: _,
-        } => true,
-    }
+    matches!(operation, Operation::Writing { .. })
 }
 
 // Whether the operation in hand has units; where none is, nothing speaks against them.
@@ -236,16 +171,9 @@ fn units_for(operation: Operation, variables: &[u32], calibration: Calibration) 
 {
     match operation {
         Operation::Idle => true,
-        Operation::Reading {
-            variable,
-            step: _,
-            gathered: _,
-        } => has_units(variables, variable, calibration),
-        Operation::Writing {
-            variable,
-            step: _,
-            value: _,
-        } => has_units(variables, variable, calibration),
+        Operation::Reading { variable, .. } | Operation::Writing { variable, .. } => {
+            has_units(variables, variable, calibration)
+        }
     }
 }
 
@@ -268,7 +196,7 @@ pub fn confirm_in_units(
         held.new marks.new result }
 {
     let units = units_for(operation, variables, calibration);
-    if is_write(operation) & !units {
+    if is_write(operation) && !units {
         return refuse_units(parameters, registers, variables, held, marks, operation);
     }
     let outcome = station::confirm(

@@ -2,7 +2,6 @@
 // second implementation.
 #![tactic(auto)]
 
-use frames::Frame;
 use std::io;
 
 fn tell(out: &mut impl io::Write, text: &[u8]) -> io::Result<()> {
@@ -14,16 +13,11 @@ fn tell(out: &mut impl io::Write, text: &[u8]) -> io::Result<()> {
 // One frame at a time: a frame ends after it began, so the loop does.
 fn tell_all(out: &mut impl io::Write, input: &[u8]) -> io::Result<()> {
     let mut at = 0;
-    loop {
-        let frame = frames::frame_at(input, at);
-        match frame {
-            Frame::Text { start, end, next } => {
-                tell(out, &input[start..end])?;
-                at = next;
-            }
-            Frame::Nothing => return Ok(()),
-        }
+    while let Some(frame) = frames::frame_at(input, at) {
+        tell(out, &input[frame.start..frame.end])?;
+        at = frame.next;
     }
+    Ok(())
 }
 
 fn main(rt: HostRuntime) -> io::Result<()> {

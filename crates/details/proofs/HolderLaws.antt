@@ -8,16 +8,15 @@ use mathlib.Core.List.{List, [], ◌∷◌, ◌++◌}
 use lib.Dec.{eqb, leb, ltb}
 use lib.ListN.{get_or, length, length-append}
 use borrow.Author.Tests.{eqb-true, eqb-false, leb-true, ltb-true, ltb-false, le-leb, le-ltb, lt-ltb}
-use Rattle.tables.specs.Every.{first_of}
+use Rattle.std.specs.Prelude.{Option, Some, None, IfSome}
+use Rattle.std.specs.Bool.{then_some}
+use Rattle.tables.specs.Every.{some}
 use Rattle.tables.specs.Marks.{down_from, has, joined}
 use Rattle.tables.specs.declared.Piece.{Piece}
 use Rattle.tables.specs.Tables.{piece_in, piece_bits}
-use Rattle.tables.proofs.Laws.{first-none}
 use Rattle.tables.proofs.DistinctLaws.{has-append}
 use Rattle.tables.proofs.MarkLaws.{joined-more, piece_run, length-down}
-use Rattle.details.specs.declared.search.Test.{Test}
 use Rattle.details.specs.Holders.{behind, Few}
-use Rattle.details.specs.Search.{passes}
 
 -- a run of numbers has those between its ends
 run_none : (x from : ℕ) → false ≡ (leb from x && ltb x (from + 0))
@@ -68,29 +67,30 @@ piece-has vs piece x {r} {h} {l} er eh el =
     piece-ends x (64 * r + l) r h l refl ∙ sym (has-down x (64 * r + l) (h + 1 - l)) ∙ ap (has x) (piece_run vs piece er eh el)
 
 -- how many bits a piece has, and how many of them stand behind one: as many as lie below it
-behind-down : (x from n : ℕ) → behind x (down_from from n) ≡ cond (leb from x && ltb x (from + n)) (x - from) 0
+behind-down : (x from n : ℕ) → behind x (down_from from n) ≡ cond (leb from x && ltb x (from + n)) (Some (x - from)) None
 unfolding behind down_from
-behind-down x from zero = ap (λ (b : Bool). cond b (x - from) 0) (run_none x from)
+behind-down x from zero = ap (λ (b : Bool). cond b (Some (x - from)) None) (run_none x from)
 behind-down x from (suc n) = go (behind-down x from n) (eqb x (from + n)) refl
   where
     go :
-        behind x (down_from from n) ≡ cond (leb from x && ltb x (from + n)) (x - from) 0
+        behind x (down_from from n) ≡ cond (leb from x && ltb x (from + n)) (Some (x - from)) None
         → (b : Bool) → eqb x (from + n) ≡ b
-        → cond b (length (down_from from n)) (behind x (down_from from n)) ≡ cond (leb from x && ltb x (from + suc n)) (x - from) 0
+        → cond b (Some (length (down_from from n))) (behind x (down_from from n)) ≡ cond (leb from x && ltb x (from + suc n)) (Some (x - from)) None
     go h true e =
         let is = eqb-true x (from + n) e in
         let low : n ≡ x - from = omega arith in
-        length-down from n ∙ low ∙ ap (λ (b : Bool). cond b (x - from) 0) (run_more x from n true e)
-    go h false e = h ∙ ap (λ (b : Bool). cond b (x - from) 0) (run_more x from n false e)
+        ap Some (length-down from n ∙ low) ∙ ap (λ (b : Bool). cond b (Some (x - from)) None) (run_more x from n true e)
+    go h false e = h ∙ ap (λ (b : Bool). cond b (Some (x - from)) None) (run_more x from n false e)
 
-behind-few : (x : ℕ) (xs : List ℕ) → behind x xs ≤ length xs
+behind-few : (x : ℕ) (xs : List ℕ) → IfSome (behind x xs) (λ w. w ≤ length xs)
 unfolding behind
-behind-few x [] = omega arith
-behind-few x (y ∷ ys) = go (behind-few x ys) (eqb x y)
+behind-few x [] = tt
+behind-few x (y ∷ ys) = go (behind x ys) (behind-few x ys) (eqb x y)
   where
-    go : behind x ys ≤ length ys → (b : Bool) → cond b (length ys) (behind x ys) ≤ suc (length ys)
-    go h true = omega arith
-    go h false = omega arith
+    go : (o : Option ℕ) → IfSome o (λ w. w ≤ length ys) → (b : Bool) → IfSome (cond b (Some (length ys)) o) (λ w. w ≤ suc (length ys))
+    go o h true = omega arith
+    go None h false = tt
+    go (Some w) h false = omega arith
 
 pub piece_size : (vs : List ℕ) (piece : ℕ) {h l n : ℕ} → h ≡ get_or vs (piece + 1) 0 → l ≡ get_or vs (piece + 2) 0 → h < 2 ^ 32 → n ≡ h + 1 - l
     → Few (length (piece_bits (piece_in vs piece))) n
@@ -100,73 +100,69 @@ piece_size vs piece {h} {l} eh el lt e =
       small = omega arith;
     }
 
+tried-cond : (b : Bool) (w : ℕ) → then_some b w ≡ cond b (Some w) None
+tried-cond true w = refl
+tried-cond false w = refl
+
 pub piece_weight :
-    (vs : List ℕ) (piece x : ℕ) {r l w : ℕ} {b : Bool} → r ≡ get_or vs piece 0 → l ≡ get_or vs (piece + 2) 0
-    → b ≡ has x (piece_bits (piece_in vs piece)) → w ≡ cond b (x - (64 * r + l)) 0
-    → w ≡ behind x (piece_bits (piece_in vs piece))
-piece_weight vs piece x {r} {l} {w} {b} er el eb ew =
+    (vs : List ℕ) (piece x : ℕ) {r l : ℕ} {b : Bool} → r ≡ get_or vs piece 0 → l ≡ get_or vs (piece + 2) 0
+    → b ≡ has x (piece_bits (piece_in vs piece))
+    → then_some b (x - (64 * r + l)) ≡ behind x (piece_bits (piece_in vs piece))
+piece_weight vs piece x {r} {l} {b} er el eb =
     let n : ℕ = get_or vs (piece + 1) 0 + 1 - l in
     let run : down_from (64 * r + l) n ≡ piece_bits (piece_in vs piece) = piece_run vs piece er refl el in
     let test : b ≡ (leb (64 * r + l) x && ltb x (64 * r + l + n)) = eb ∙ ap (has x) (sym run) ∙ has-down x (64 * r + l) n in
-    ew ∙ ap (λ (t : Bool). cond t (x - (64 * r + l)) 0) test ∙ sym (behind-down x (64 * r + l) n) ∙ ap (behind x) run
+    tried-cond b (x - (64 * r + l)) ∙ ap (λ (t : Bool). cond t (Some (x - (64 * r + l))) None) test ∙ sym (behind-down x (64 * r + l) n) ∙ ap (behind x) run
 
 -- a piece, made of its words
 pub piece-made : (vs : List ℕ) (at : ℕ) {r h l : ℕ} → r ≡ get_or vs at 0 → h ≡ get_or vs (at + 1) 0 → l ≡ get_or vs (at + 2) 0
     → ◌≡◌ {A = Piece} (record { register = r; high = h; low = l }) (piece_in vs at)
 piece-made vs at er eh el = rw (er, eh, el)
 
--- a loop over lists that are joined: its start, and a turn
-pub joined-start : {A : Type 0} (g : List ℕ → A) (f : ℕ → List ℕ) → g [] ≡ g (joined f 0)
-unfolding joined
-joined-start g f = refl
+-- lists that are joined have what some of them has
+pub has-joined : (x : ℕ) (f : ℕ → List ℕ) (n : ℕ) → some n (λ k. has x (f k)) ≡ has x (joined f n)
+unfolding some joined has
+has-joined x f zero = refl
+has-joined x f (suc n) = ap (λ (b : Bool). b || has x (f n)) (has-joined x f n) ∙ sym (has-append x (joined f n) (f n))
 
-pub has_more : (x : ℕ) (f : ℕ → List ℕ) (n : ℕ) {found b : Bool} → found ≡ has x (joined f n) → b ≡ has x (f n) → (found || b) ≡ has x (joined f (n + 1))
-has_more x f n h e = ap₂ ◌||◌ h e ∙ sym (ap (has x) (joined-more f n) ∙ has-append x (joined f n) (f n))
+pub has-mentions : (x : ℕ) (f : ℕ → ℕ) (n : ℕ) → some n (λ k. eqb x (f k)) ≡ has x (joined (λ k. f k ∷ []) n)
+unfolding some joined has
+has-mentions x f zero = refl
+has-mentions x f (suc n) =
+    ap₂ ◌||◌ (has-mentions x f n) (sym (or-false (eqb x (f n))))
+    ∙ sym (has-append x (joined (λ k. f k ∷ []) n) (f n ∷ []))
 
 -- the same for what stands behind a number
-behind-append : (x : ℕ) (xs ys : List ℕ) → behind x (xs ++ ys) ≡ cond (has x xs) (behind x xs + length ys) (behind x ys)
-unfolding has behind
+behind-append : (x : ℕ) (xs ys : List ℕ) → behind x (xs ++ ys) ≡ elim (behind x xs) [ Some w ↦ Some (w + length ys) | None ↦ behind x ys ]
+unfolding behind
 behind-append x [] ys = refl
 behind-append x (y ∷ xs) ys = go (behind-append x xs ys) (eqb x y)
   where
     go :
-        behind x (xs ++ ys) ≡ cond (has x xs) (behind x xs + length ys) (behind x ys)
+        behind x (xs ++ ys) ≡ elim (behind x xs) [ Some w ↦ Some (w + length ys) | None ↦ behind x ys ]
         → (b : Bool)
-        → cond b (length (xs ++ ys)) (behind x (xs ++ ys)) ≡ cond (b || has x xs) (cond b (length xs) (behind x xs) + length ys) (behind x ys)
-    go h true = length-append xs ys
+        → cond b (Some (length (xs ++ ys))) (behind x (xs ++ ys)) ≡ elim (cond b (Some (length xs)) (behind x xs)) [ Some w ↦ Some (w + length ys) | None ↦ behind x ys ]
+    go h true = ap Some (length-append xs ys)
     go h false = h
 
-pub behind_more :
-    (x : ℕ) (f : ℕ → List ℕ) (n : ℕ) {found : Bool} {weight size own next : ℕ} → found ≡ has x (joined f n) → weight ≡ behind x (joined f n)
-    → size ≡ length (f n) → own ≡ behind x (f n) → next ≡ cond found (weight + size) own
-    → next ≡ behind x (joined f (n + 1))
-behind_more x f n {found} {weight} {size} {own} ef ew es eo en =
-    let here : cond found (weight + size) own ≡ cond (has x (joined f n)) (behind x (joined f n) + length (f n)) (behind x (f n)) = rw (ef, ew, es, eo) in
-    en ∙ here ∙ sym (ap (behind x) (joined-more f n) ∙ behind-append x (joined f n) (f n))
+behind_more : (x : ℕ) (f : ℕ → List ℕ) (n : ℕ) → behind x (joined f (n + 1)) ≡ elim (behind x (joined f n)) [ Some w ↦ Some (w + length (f n)) | None ↦ behind x (f n) ]
+behind_more x f n = ap (behind x) (joined-more f n) ∙ behind-append x (joined f n) (f n)
 
-pub own-few : (x : ℕ) (xs : List ℕ) {own size : ℕ} → own ≡ behind x xs → size ≡ length xs → own ≤ size
-own-few x xs eo es = let few = behind-few x xs in omega arith
+-- a turn of the loop that weighs a bit: behind the piece that has it stand all bits of the pieces that follow
+module _ (x : ℕ) (f : ℕ → List ℕ) (n : ℕ) {weight : Option ℕ} (is : weight ≡ behind x (joined f n)) where
+  pub weigh_on : {above size : ℕ} → weight ≡ Some above → size ≡ length (f n) → Some (above + size) ≡ behind x (joined f (n + 1))
+  weigh_on {above} {size} e es = sym (behind_more x f n ∙ rw (sym is ∙ e, es))
 
-pub chosen-few : (b : Bool) {x y m r : ℕ} → r ≡ cond b x y → x ≤ m → y ≤ m → r ≤ m
-chosen-few true e lx ly = omega arith
-chosen-few false e lx ly = omega arith
+  pub weigh-first : weight ≡ None → behind x (f n) ≡ behind x (joined f (n + 1))
+  weigh-first e = sym (behind_more x f n ∙ rw (sym is ∙ e))
 
--- one register, as a list of its own
-pub has-single : (x : ℕ) {y z : ℕ} → y ≡ z → eqb x y ≡ has x (z ∷ [])
-unfolding has
-has-single x {y} {z} e = ap (eqb x) e ∙ sym (or-false (eqb x z))
+-- a bit of a piece has as many of the piece's bits behind it, and they are few
+pub piece_most : (vs : List ℕ) (at x m : ℕ) → get_or vs (at + 1) 0 < 2 ^ 32 → 2 ^ 32 ≤ m → IfSome (behind x (piece_bits (piece_in vs at))) (λ w. w ≤ m)
+piece_most vs at x m lt le = go (behind x (piece_bits (piece_in vs at))) (behind-few x (piece_bits (piece_in vs at)))
+  where
+    few : length (piece_bits (piece_in vs at)) ≤ 2 ^ 32
+    few = rw length-down (omega arith)
 
--- a search among none
-pub first-zero : (n : ℕ) (p : ℕ → Bool) → n ≡ 0 → 0 ≡ first_of n p
-first-zero n p e = sym (ap (λ (k : ℕ). first_of k p) e ∙ first-none p)
-
--- a test that a match has told
-pub told : (t : List ℕ) (k : ℕ) {test other : Test} {b : Bool} → b ≡ passes t other k → test ≡ other → b ≡ passes t test k
-told t k h e = h ∙ ap (λ (x : Test). passes t x k) (sym e)
-
--- where the two parts of an entry start
-pub read-start : (first words : ℕ) → first ≡ first + words * 0
-read-start first words = omega arith
-
-pub write-start : (first words : ℕ) → first + words ≡ first + words * 1
-write-start first words = omega arith
+    go : (o : Option ℕ) → IfSome o (λ w. w ≤ length (piece_bits (piece_in vs at))) → IfSome o (λ w. w ≤ m)
+    go None h = tt
+    go (Some w) h = omega (arith, few)

@@ -1,12 +1,20 @@
 -- The names that the entries of the tables record, and the words of their parts.
 use Rattle.std.specs.Prelude.{ℕ, ◌+◌, ◌<◌, ◌^◌, ◌≡◌, Bool, List, eqb, get_or}
 use Rattle.tables.specs.Every.{every}
-use Rattle.tables.specs.Tables.{register_part, variable_part}
+use Rattle.tables.specs.Tables.{parameter_at, register_at, variable_at, register_part, variable_part}
+use Rattle.details.specs.declared.entries.Entry.{Entry}
+use Rattle.details.specs.declared.entries.Entry.TheVariants.{Parameter, Register, Variable}
 use Rattle.rules.specs.Names.{name_of}
 
 -- the name recorded by the entry at a word of a table
 abbrev pub name_in : List ℕ → List ℕ → ℕ → List ℕ
 name_in text table at = name_of text (get_or table at 0) (get_or table (at + 1) 0)
+
+-- the word of its table at which entry i starts
+abbrev pub entry_at : Entry → ℕ → ℕ
+entry_at Parameter i = parameter_at i
+entry_at Register i = register_at i
+entry_at Variable i = variable_at i
 
 -- what the place of a word in a table promises: which it is, and that places near it are numbers of the machine too
 pub record Stands (at r : ℕ) : Type 0 where

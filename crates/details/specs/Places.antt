@@ -1,5 +1,5 @@
 -- Places of a text: lines and columns, both counted from 0 here, columns in bytes; names; declarations.
-use Rattle.std.specs.Prelude.{ℕ, zero, suc, ◌+◌, ◌≤◌, ◌≡◌, Bool, cond, List, eqb, leb, length, get_or}
+use Rattle.std.specs.Prelude.{ℕ, zero, suc, ◌≤◌, ◌≡◌, Bool, cond, List, eqb, leb, length, get_or, take, false, ◌==◌, count_by, Option, Some, None}
 use Prim.Native.Char.{code}
 use Rattle.token.specs.declared.Token.{Token}
 use Rattle.token.specs.declared.Token.TheVariants.{Name, Word, Number, Bits, Sign, End, Bad}
@@ -16,9 +16,8 @@ abbrev pub breaks_at : List ℕ → ℕ → Bool
 breaks_at text p = eqb (get_or text p 0) (code "\n")
 
 -- how many lines end before a place
-unfoldable pub lines_before : List ℕ → ℕ → ℕ
-lines_before text zero = 0
-lines_before text (suc p) = lines_before text p + cond (breaks_at text p) 1 0
+abbrev pub lines_before : List ℕ → ℕ → ℕ
+lines_before text p = count_by (λ b. b == code "\n") (take p text)
 
 -- where the line of a place starts: behind the last newline before it
 unfoldable pub line_start : List ℕ → ℕ → ℕ
@@ -43,18 +42,23 @@ extent_of (Bad p) = 0
 abbrev pub name_at : List ℕ → ℕ → List ℕ
 name_at text place = name_of text (place_of (scan_at text place).token) (extent_of (scan_at text place).token)
 
--- the last word `register` or `variable` before a place, among so many tokens from `at` on; `best` is the last one so
+-- the last word `register` or `variable` before a place, among so many tokens from `at` on; `last` is the last one so
 -- far
-unfoldable pub opening_from : List ℕ → ℕ → ℕ → ℕ → ℕ → ℕ
-opening_from text place zero at best = best
-opening_from text place (suc room) at best =
+unfoldable pub opening_from : List ℕ → ℕ → ℕ → ℕ → Option ℕ → Option ℕ
+opening_from text place zero at last = last
+opening_from text place (suc room) at last =
     let found : Scanned = scan_at text at in
-    cond (leb place (place_of found.token)) best
-    (opening_from text place room found.next (cond (begins (kind_of found.token)) (place_of found.token) best))
+    cond (leb place (place_of found.token)) last
+    (opening_from text place room found.next (cond (begins (kind_of found.token)) (Some (place_of found.token)) last))
 
--- the declaration that a place lies in begins there; the text's length where there is none
-unfoldable pub opening_of : List ℕ → ℕ → ℕ
-opening_of text place = opening_from text place (length text) 0 (length text)
+-- the declaration that a place lies in begins there, unless it lies in a heading
+unfoldable pub opening_of : List ℕ → ℕ → Option ℕ
+opening_of text place = opening_from text place (length text) 0 None
+
+-- the word that begins a declaration is `register`
+abbrev pub is_register_at : List ℕ → Option ℕ → Bool
+is_register_at text (Some start) = eqb (kind_of (scan_at text start).token) 'register'
+is_register_at text None = false
 
 abbrev pub opens_register : List ℕ → ℕ → Bool
-opens_register text place = eqb (kind_of (scan_at text (opening_of text place)).token) 'register'
+opens_register text place = is_register_at text (opening_of text place)

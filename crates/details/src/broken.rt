@@ -1,38 +1,60 @@
 // Where rules 14, 15 and 16 break: the first bit or register, in the order of the tables. Where the others break is one
 // search in a table.
-ghost use Rattle.std.specs.Prelude.{◌≡◌};
-ghost use Rattle.details.specs.Broken.{most, first_shared, bare, first_bare};
+ghost use Rattle.std.specs.Prelude.{◌≡◌, ℕ, Option};
+ghost use Rattle.bits.specs.Widths.{widest};
+ghost use Rattle.details.specs.Search.{first};
+ghost use Rattle.details.specs.Broken.{first_shared, bare};
+ghost use Rattle.details.specs.Holders.{share_bit, share_register};
 
-use crate::entries::{count_of, register_word};
-use crate::holders::Shared;
+use crate::entries::register_word;
+use crate::holders::{holds_bit, pulls_trigger, touches_register};
 use crate::rows::holder_of;
-use crate::search::{Test, first_in};
 use tables::Part;
 
-// How many bits or registers there can be.
-fn most_of(shared: Shared) -> usize
-    ensures { result ≡ most shared }
+// Of so many bits or registers, the first that another variable shares, and that variable.
+#[tactic(auto, unfolding(crate::specs::Broken::first_shared))]
+fn first_shared<F: Fn(usize) -> Option<u32>>(most: usize, sharing: F) -> Option<(usize, u32)>
+    requires { F.IsAlwaysCallable sharing }
+    ensures { (other : ℕ → Option ℕ) → ((n : ℕ) (told : Option ℕ) → F.post sharing n told → told ≡ other n) → result ≡ first_shared most other }
 {
-    match shared {
-        Shared::Bit => 4096,
-        Shared::Register => 64,
+    for number in 0..most {
+        if let Some(u) = sharing(number) {
+            return Some((number, u));
+        }
     }
+    None
 }
 
-// Rules 14 and 15: the first bit or register that variable v shares with an earlier one where it may not, or their
-// count.
-pub fn first_shared(variables: &[u32], v: u32, part: Part, shared: Shared) -> usize
-    ensures { result ≡ first_shared variables.now v part shared }
+// A variable before v that has this bit too.
+fn bit_sharer(variables: &[u32], v: u32, part: Part, bit: usize) -> Option<u32>
+    ensures { result ≡ first v (share_bit variables.now v part bit) }
 {
-    let n = most_of(shared);
-    let mut number = 0;
-    while number < n {
-        if first_in(variables, Test::Shares(v, part, shared, number)) < v {
-            return number;
-        }
-        number += 1;
-    }
-    number
+    (0..v).find(|&u| holds_bit(variables, part, bit, v) & holds_bit(variables, part, bit, u))
+}
+
+// Rule 14: the first bit that variable v shares with an earlier one, and the first such variable.
+pub fn shared_bit(variables: &[u32], v: u32, part: Part) -> Option<(usize, u32)>
+    ensures { result ≡ first_shared 4096 (λ bit. first v (share_bit variables.now v part bit)) }
+{
+    first_shared(4096, |bit| bit_sharer(variables, v, part, bit))
+}
+
+// A variable before v that has bits in this register too, one of the two being a trigger.
+fn register_sharer(variables: &[u32], v: u32, part: Part, register: usize) -> Option<u32>
+    ensures { result ≡ first v (share_register variables.now v part register) }
+{
+    (0..v).find(|&u| {
+        touches_register(variables, part, register, v)
+            & touches_register(variables, part, register, u)
+            & (pulls_trigger(variables, part, v) | pulls_trigger(variables, part, u))
+    })
+}
+
+// Rule 15: the first register that variable v shares so with an earlier one, and the first such variable.
+pub fn shared_register(variables: &[u32], v: u32, part: Part) -> Option<(usize, u32)>
+    ensures { result ≡ first_shared 64 (λ register. first v (share_register variables.now v part register)) }
+{
+    first_shared(64, |register| register_sharer(variables, v, part, register))
 }
 
 // Is a bit a dot of a register's part that no variable maps?
@@ -40,20 +62,12 @@ pub fn is_bare(registers: &[u32], variables: &[u32], i: u32, part: Part, b: u32)
     ensures { result ≡ bare registers.now variables.now i part b }
 {
     let dots = register_word(registers, i, part, 3);
-    let held = holder_of(variables, part, i, b) < count_of(variables);
-    bits::bit_of(dots, b as usize) & !held
+    bits::bit_of(dots, b as usize) & holder_of(variables, part, i, b).is_none()
 }
 
-// Rule 16: the first such bit, or 32.
-pub fn first_bare(registers: &[u32], variables: &[u32], i: u32, part: Part) -> u32
-    ensures { result ≡ first_bare registers.now variables.now i part }
+// Rule 16: the first such bit.
+pub fn first_bare(registers: &[u32], variables: &[u32], i: u32, part: Part) -> Option<u32>
+    ensures { result ≡ first widest (bare registers.now variables.now i part) }
 {
-    let mut b: u32 = 0;
-    while b < 32 {
-        if is_bare(registers, variables, i, part, b) {
-            return b;
-        }
-        b += 1;
-    }
-    b
+    (0..32).find(|&b| is_bare(registers, variables, i, part, b))
 }

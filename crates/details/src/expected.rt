@@ -13,8 +13,8 @@ fn goes_past(step: Step, place: usize) -> bool
     ensures { result ≡ goes_past step place }
 {
     match step {
-        Step::At(_) => true,
-        Step::Refused(number, at) => (number != 4) | (at != place),
+        Ok(_) => true,
+        Err(refusal) => (refusal.number() != 4) | (refusal.place != place),
     }
 }
 
@@ -22,9 +22,7 @@ fn goes_past(step: Step, place: usize) -> bool
 fn reads_past(buffer: &[u8], end: usize, place: usize) -> bool
     ensures { result ≡ goes_past (reading (take end buffer.now)).step place }
 {
-    let outline = syntax::read_text(name_of(buffer, 0, end));
-    let step = outline.step;
-    goes_past(step, place)
+    goes_past(syntax::read_text(name_of(buffer, 0, end)).step, place)
 }
 
 // The text before a place, a blank and a word, read as a text of its own.

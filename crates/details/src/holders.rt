@@ -1,12 +1,11 @@
-// Which variable holds a bit, or has one in a register, and what two of them share.
-ghost use Rattle.std.specs.Prelude.{◌≡◌, ◌+◌, ◌*◌, ◌-◌, ◌<◌, ◌^◌, length};
+// Which variable holds a bit, or has one in a register.
+ghost use Rattle.std.specs.Prelude.{◌≡◌, ◌+◌, ◌*◌, ◌-◌, ◌<◌, ◌≤◌, ◌^◌, length, IfSome};
 ghost use Rattle.tables.specs.Marks.{has};
 ghost use Rattle.tables.specs.Tables.{piece_in, piece_bits, variable_part_of};
 ghost use Rattle.tables.specs.View.{part_no};
-ghost use Rattle.details.specs.Holders.{holds, behind, weight_in, Few, Weighs, touches, mentioned_below, pulls, share_in};
+ghost use Rattle.details.specs.Holders.{holds, behind, weight_in, Few, touches, mentioned_below, pulls};
 
-use crate::entries::{piece_count, piece_of, variable_part, variable_word};
-use rules::words::choose;
+use crate::entries::{piece_at, piece_count, piece_of, variable_word};
 use tables::Part;
 use tables::words::word;
 
@@ -21,13 +20,6 @@ fn piece_holds(variables: &[u32], piece: usize, number: usize) -> bool
     (64 * register + low <= number) & (number < 64 * register + high + 1)
 }
 
-// How far it is from one number to another, 0 where that is less.
-fn past(from: usize, to: usize) -> usize
-    ensures { result ≡ to - from }
-{
-    if from <= to { to - from } else { 0 }
-}
-
 // How many bits the piece at a word of the variables has.
 fn piece_size(variables: &[u32], piece: usize) -> usize
     requires { piece < 2 ^ 41 }
@@ -35,36 +27,30 @@ fn piece_size(variables: &[u32], piece: usize) -> usize
 {
     let high = word(variables, piece + 1);
     let low = word(variables, piece + 2);
-    past(low, high + 1)
+    (high + 1).saturating_sub(low)
 }
 
-// How many of them stand behind this bit; 0 where it is none of them.
-fn piece_weight(variables: &[u32], piece: usize, number: usize) -> usize
+// How many of them stand behind this bit, unless it is none of them.
+fn piece_weight(variables: &[u32], piece: usize, number: usize) -> Option<usize>
     requires { piece < 2 ^ 41 }
     ensures { result ≡ behind number (piece_bits (piece_in variables.now piece)) }
 {
-    let register = word(variables, piece);
-    let low = word(variables, piece + 2);
-    let held = piece_holds(variables, piece, number);
-    choose(held, past(64 * register + low, number), 0)
+    let lowest = 64 * word(variables, piece) + word(variables, piece + 2);
+    piece_holds(variables, piece, number).then_some(number.saturating_sub(lowest))
 }
 
-// The weight of a bit in variable v.
-pub fn weight_in(variables: &[u32], part: Part, number: usize, v: u32) -> usize
-    ensures { Weighs (weight_in variables.now part number v) result }
+// The weight of a bit in variable v, unless v does not map it.
+pub fn weight_in(variables: &[u32], part: Part, number: usize, v: u32) -> Option<usize>
+    ensures is { result ≡ weight_in variables.now part number v }
+    ensures small { IfSome result (λ weight. weight + 2 ^ 32 ≤ 2 ^ 64) }
 {
-    let at = variable_part(v, part);
-    let n = word(variables, at + 2);
-    let mut found = false;
-    let mut weight = 0;
-    let mut k = 0;
-    while k < n {
-        let piece = at + 3 + 3 * k;
-        let size = piece_size(variables, piece);
-        let own = piece_weight(variables, piece, number);
-        weight = choose(found, weight + size, own);
-        found = found | piece_holds(variables, piece, number);
-        k += 1;
+    let mut weight: Option<usize> = None;
+    for k in 0..piece_count(variables, v, part) {
+        let piece = piece_at(v, part, k);
+        weight = match weight {
+            Some(above) => Some(above + piece_size(variables, piece)),
+            None => piece_weight(variables, piece, number),
+        };
     }
     weight
 }
@@ -73,29 +59,15 @@ pub fn weight_in(variables: &[u32], part: Part, number: usize, v: u32) -> usize
 pub fn holds_bit(variables: &[u32], part: Part, number: usize, v: u32) -> bool
     ensures { result ≡ holds variables.now part number v }
 {
-    let at = variable_part(v, part);
-    let n = word(variables, at + 2);
-    let mut found = false;
-    let mut k = 0;
-    while k < n {
-        found = found | piece_holds(variables, at + 3 + 3 * k, number);
-        k += 1;
-    }
-    found
+    let n = piece_count(variables, v, part);
+    (0..n).any(|k| piece_holds(variables, piece_at(v, part, k), number))
 }
 
 // Does one of the first k pieces of variable v mention this register?
 pub fn mentioned_below(variables: &[u32], part: Part, register: usize, v: u32, k: u32) -> bool
     ensures { result ≡ mentioned_below variables.now part register v k }
 {
-    let mut found = false;
-    let mut j: u32 = 0;
-    while j < k {
-        let piece = piece_of(variables, v, part, j);
-        found = found | (register == piece.register);
-        j += 1;
-    }
-    found
+    (0..k).any(|j| register == piece_of(variables, v, part, j).register)
 }
 
 // Has variable v a bit in this register?
@@ -123,27 +95,4 @@ pub fn pulls_trigger(variables: &[u32], part: Part, v: u32) -> bool
     ensures { result ≡ pulls variables.now part v }
 {
     variable_word(variables, v, part, 1) == 1
-}
-
-// What two variables may not share in a part: a bit (rule 14); a register, where one of the two is trigger (rule 15).
-#[derive(Clone, Copy)]
-pub enum Shared {
-    Bit,
-    Register,
-}
-
-// Do two variables share this bit or this register?
-pub fn shares(variables: &[u32], v: u32, part: Part, shared: Shared, number: usize, u: u32) -> bool
-    ensures { result ≡ share_in variables.now v part shared number u }
-{
-    match shared {
-        Shared::Bit => {
-            holds_bit(variables, part, number, v) & holds_bit(variables, part, number, u)
-        }
-        Shared::Register => {
-            touches_register(variables, part, number, v)
-                & touches_register(variables, part, number, u)
-                & (pulls_trigger(variables, part, v) | pulls_trigger(variables, part, u))
-        }
-    }
 }

@@ -3,45 +3,30 @@ ghost use Rattle.std.specs.Prelude.{◌≡◌};
 ghost use Rattle.details.specs.Places.{breaks_at, lines_before, Start, extent_of, name_at, opening_of, opens_register};
 
 use rules::names::name_of;
-use rules::words::choose;
+use syntax::kinds::REGISTER;
 use token::Token;
-
-// The kind of the word `register`.
-const REGISTER: u16 = 529;
 
 fn breaks_at(text: &[u8], place: usize) -> bool
     ensures { result ≡ breaks_at text.now place }
 {
-    if place < text.len() {
-        text[place] == b'\n'
-    } else {
-        false
-    }
+    text.get(place).copied().unwrap_or(0) == b'\n'
 }
 
 // How many lines end before a place.
 pub fn lines_before(text: &[u8], place: usize) -> usize
     ensures { result ≡ lines_before text.now place }
 {
-    let mut lines = 0;
-    let mut at = 0;
-    while at < place {
-        lines += choose(breaks_at(text, at), 1, 0);
-        at += 1;
-    }
-    lines
+    text.iter().take(place).filter(|b| **b == b'\n').count()
 }
 
 // Where the line of a place starts.
 pub fn line_start(text: &[u8], place: usize) -> usize
     ensures { Start text.now place result }
 {
-    let mut at = place;
-    while 0 < at {
-        if breaks_at(text, at - 1) {
-            return at;
+    for before in (0..place).rev() {
+        if breaks_at(text, before) {
+            return before + 1;
         }
-        at -= 1;
     }
     0
 }
@@ -51,12 +36,7 @@ fn extent_of(token: Token) -> usize
 {
     match token {
         Token::Name(_, length) => length,
-        Token::Word(_, _) => 0,
-        Token::Number(_, _) => 0,
-        Token::Bits(_, _) => 0,
-        Token::Sign(_, _) => 0,
-        Token::End(_) => 0,
-        Token::Bad(_) => 0,
+        _ => 0,
     }
 }
 
@@ -64,38 +44,37 @@ fn extent_of(token: Token) -> usize
 pub fn name_at(text: &[u8], place: usize) -> &[u8]
     ensures { result.now ≡ name_at text.now place }
 {
-    let found = token_reader::scan_at(text, place);
-    let token = found.token;
-    name_of(text, token::place_of(token), extent_of(token))
+    let token = token_reader::scan_at(text, place).token;
+    name_of(text, token.place(), extent_of(token))
 }
 
-// The last word `register` or `variable` before a place: the declaration that the place lies in begins there. The
-// text's length where there is none, as in a heading.
-pub fn opening(text: &[u8], place: usize) -> usize
+// The last word `register` or `variable` before a place: the declaration that the place lies in begins there. In a
+// heading there is none.
+pub fn opening(text: &[u8], place: usize) -> Option<usize>
     ensures { result ≡ opening_of text.now place }
 {
     let mut at = 0;
-    let mut best = text.len();
-    let mut room = text.len();
-    while 0 < room {
+    let mut last = None;
+    for _ in 0..text.len() {
         let found = token_reader::scan_at(text, at);
-        let token = found.token;
-        let start = token::place_of(token);
+        let start = found.token.place();
         if place <= start {
-            return best;
+            return last;
         }
-        best = choose(syntax::declares(token::kind_of(token)), start, best);
+        if syntax::declares(found.token.kind()) {
+            last = Some(start);
+        }
         at = found.next;
-        room -= 1;
     }
-    best
+    last
 }
 
 // Does a place lie in a register's declaration?
 pub fn in_register(text: &[u8], place: usize) -> bool
     ensures { result ≡ opens_register text.now place }
 {
-    let found = token_reader::scan_at(text, opening(text, place));
-    let token = found.token;
-    token::kind_of(token) == REGISTER
+    match opening(text, place) {
+        Some(start) => token_reader::scan_at(text, start).token.kind() == REGISTER,
+        None => false,
+    }
 }

@@ -1,42 +1,18 @@
-// One loop for every search: the first number, from 0 up, that passes a test. An enum of tests stands for a closure.
-ghost use Rattle.std.specs.Prelude.{◌≡◌, not};
-ghost use Rattle.tables.specs.Tables.{range_of};
+// Searches in the tables: the first entry, range, piece or bit, from 0 up, of which something holds.
+ghost use Rattle.std.specs.Prelude.{◌≡◌, eqb, get_or, not};
+ghost use Rattle.bits.specs.Widths.{widest};
+ghost use Rattle.tables.specs.Tables.{count_of, range_count, range_of, register_at, register_part_of};
 ghost use Rattle.tables.specs.Rules.{range_fits};
 ghost use Rattle.tables.specs.Scan.{overlap};
-ghost use Rattle.tables.specs.Tables.{register_part_of};
 ghost use Rattle.tables.specs.View.{part_no};
-ghost use Rattle.details.specs.Search.{serves_with, clashes_with, tells_with, is_star, could_tell, undotted, overlaps_at, limit, passes, first_in};
+ghost use Rattle.details.specs.Search.{first, serves_with, clashes_with, tells_with, is_star, could_tell_by, undotted, overlaps_at};
 
 use crate::entries::{
-    count_of, mask_bit, part_number, piece_of, range_count, range_high, range_low, register_has,
-    register_part, register_place, register_word,
+    Entry, count_of, mask_bit, piece_of, range_count, range_high, range_low, register_has,
+    register_part, register_word,
 };
-use crate::holders::{Shared, holds_bit, shares};
 use tables::registers::clashes;
 use tables::{Part, Piece};
-
-// What is looked for, in the table whose entries the test speaks of.
-#[derive(Clone, Copy)]
-pub enum Test {
-    // A range of this parameter that goes down or past 255 (rule 8).
-    Misfit(u32),
-    // A register whose name stands at this place.
-    Named(usize),
-    // A register before this one that may not have its place in a part (rule 10).
-    Clashes(u32, Part),
-    // A bit that tells the masks of two registers apart in a part.
-    Tells(u32, Part, u32),
-    // A bit that could: it is fixed in one of them and `*` in the other.
-    CouldTell(u32, Part, u32),
-    // A bit of this register, from low to high, that is no dot (rule 11).
-    Undotted(u32, Part, usize, usize),
-    // A piece of this variable's part before piece k that shares a bit with it (rule 11).
-    Overlaps(u32, Part, u32),
-    // A variable that maps this bit.
-    Holds(Part, usize),
-    // A variable before this one that shares this bit or register with it (rules 14 and 15).
-    Shares(u32, Part, Shared, usize),
-}
 
 // Does range k of a parameter go down or past 255?
 fn misfits(parameters: &[u32], i: u32, k: u32) -> bool
@@ -64,7 +40,7 @@ fn clashes_with(registers: &[u32], i: u32, part: Part, j: u32) -> bool
     let earlier = register_part(j, part);
     clashes(
         registers,
-        part_number(part),
+        part,
         register_part(i, part),
         port,
         offset,
@@ -90,8 +66,8 @@ fn is_star(registers: &[u32], i: u32, part: Part, b: u32) -> bool
 }
 
 // Is a bit fixed in one mask and `*` in the other?
-fn could_tell(registers: &[u32], i: u32, part: Part, j: u32, b: u32) -> bool
-    ensures { result ≡ could_tell (register_part_of registers.now (part_no part) i) (register_part_of registers.now (part_no part) j) b }
+fn could_tell_by(registers: &[u32], i: u32, part: Part, j: u32, b: u32) -> bool
+    ensures { result ≡ could_tell_by (register_part_of registers.now (part_no part) i) (register_part_of registers.now (part_no part) j) b }
 {
     let fixed = mask_bit(registers, i, part, 4, b);
     let other_fixed = mask_bit(registers, j, part, 4, b);
@@ -122,50 +98,51 @@ fn overlaps_at(variables: &[u32], v: u32, part: Part, k: u32, j: u32) -> bool
     overlaps(earlier, piece)
 }
 
-// How many numbers are tried.
-fn limit_of(table: &[u32], test: Test) -> u32
-    ensures { result ≡ limit table.now test }
+// A range of a parameter that goes down or past 255 (rule 8).
+pub fn misfit(parameters: &[u32], i: u32) -> Option<u32>
+    ensures { result ≡ first (range_count parameters.now i) (λ k. not (range_fits (range_of parameters.now i k))) }
 {
-    match test {
-        Test::Misfit(i) => range_count(table, i),
-        Test::Named(_) => count_of(table),
-        Test::Clashes(i, _) => i,
-        Test::Tells(_, _, _) => 32,
-        Test::CouldTell(_, _, _) => 32,
-        Test::Undotted(_, _, _, _) => 32,
-        Test::Overlaps(_, _, k) => k,
-        Test::Holds(_, _) => count_of(table),
-        Test::Shares(v, _, _, _) => v,
-    }
+    (0..range_count(parameters, i)).find(|&k| misfits(parameters, i, k))
 }
 
-fn does_pass(table: &[u32], test: Test, k: u32) -> bool
-    ensures { result ≡ passes table.now test k }
+// A register whose name stands at this place.
+pub fn named_at(registers: &[u32], place: usize) -> Option<u32>
+    ensures { result ≡ first (count_of registers.now) (λ i. eqb (get_or registers.now (register_at i) 0) place) }
 {
-    match test {
-        Test::Misfit(i) => misfits(table, i, k),
-        Test::Named(place) => register_place(table, k) == place,
-        Test::Clashes(i, part) => clashes_with(table, i, part, k),
-        Test::Tells(i, part, j) => tells_with(table, i, part, j, k),
-        Test::CouldTell(i, part, j) => could_tell(table, i, part, j, k),
-        Test::Undotted(i, part, low, high) => is_undotted(table, i, part, low, high, k),
-        Test::Overlaps(v, part, piece) => overlaps_at(table, v, part, piece, k),
-        Test::Holds(part, number) => holds_bit(table, part, number, k),
-        Test::Shares(v, part, shared, number) => shares(table, v, part, shared, number, k),
-    }
+    (0..count_of(registers)).find(|&i| Entry::Register.place(registers, i) == place)
 }
 
-// The first number that passes, or their count where none does.
-pub fn first_in(table: &[u32], test: Test) -> u32
-    ensures { result ≡ first_in table.now test }
+// A register before this one that may not have its place in a part (rule 10).
+pub fn clashing(registers: &[u32], i: u32, part: Part) -> Option<u32>
+    ensures { result ≡ first i (clashes_with registers.now i part) }
 {
-    let n = limit_of(table, test);
-    let mut k: u32 = 0;
-    while k < n {
-        if does_pass(table, test, k) {
-            return k;
-        }
-        k += 1;
-    }
-    k
+    (0..i).find(|&j| clashes_with(registers, i, part, j))
+}
+
+// A bit that tells the masks of two registers apart in a part.
+pub fn telling(registers: &[u32], i: u32, part: Part, j: u32) -> Option<u32>
+    ensures { result ≡ first widest (tells_with registers.now i part j) }
+{
+    (0..32).find(|&b| tells_with(registers, i, part, j, b))
+}
+
+// A bit that could: it is fixed in one of them and `*` in the other.
+pub fn could_tell(registers: &[u32], i: u32, part: Part, j: u32) -> Option<u32>
+    ensures { result ≡ first widest (could_tell_by (register_part_of registers.now (part_no part) i) (register_part_of registers.now (part_no part) j)) }
+{
+    (0..32).find(|&b| could_tell_by(registers, i, part, j, b))
+}
+
+// A bit of this register, from low to high, that is no dot (rule 11).
+pub fn undotted(registers: &[u32], i: u32, part: Part, low: usize, high: usize) -> Option<u32>
+    ensures { result ≡ first widest (undotted registers.now i part low high) }
+{
+    (0..32).find(|&b| is_undotted(registers, i, part, low, high, b))
+}
+
+// A piece of this variable's part before piece k that shares a bit with it (rule 11).
+pub fn overlapping(variables: &[u32], v: u32, part: Part, k: u32) -> Option<u32>
+    ensures { result ≡ first k (overlaps_at variables.now v part k) }
+{
+    (0..k).find(|&j| overlaps_at(variables, v, part, k, j))
 }

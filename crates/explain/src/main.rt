@@ -10,10 +10,9 @@ mod section;
 mod sought;
 mod source;
 
-use loader::Verdict;
+use loader::{Counts, Refused};
 use rules::Judging;
 use std::io;
-use wording::write::write;
 
 fn show_refused(
     out: &mut impl io::Write,
@@ -27,36 +26,39 @@ fn show_refused(
 ) -> io::Result<()> {
     let fault = fault::fault_place(text, registers, variables, rule, place);
     source::show_position(out, text, place)?;
-    write(out, b"\n")?;
+    writeln!(out)?;
     rule::show_rule(out, rule)?;
     why::show_why(
         out, text, judging, parameters, registers, variables, rule, place,
     )?;
     source::show_source(out, text, place, fault)?;
-    if (6 <= rule) & (rule <= 15) {
+    if 6 <= rule && rule <= 15 {
         further::show_further(out, text, place)?;
     }
     section::show_section(out, rule)
 }
 
-// The tables that loading leaves empty where it refuses are filled again up to the broken rule.
-fn explain(out: &mut impl io::Write, text: &[u8], verdict: Verdict) -> io::Result<()> {
+// The tables that loading leaves empty where it refuses are filled again up to the broken rule. They are arrays of the
+// loader's sizes, so that no explanation fails for want of memory.
+fn explain(
+    out: &mut impl io::Write,
+    text: &[u8],
+    verdict: Result<Counts, Refused>,
+) -> io::Result<()> {
     let mut parameters = [0u32; 577];
     let mut registers = [0u32; 961];
     let mut variables = [0u32; 7553];
     let judging = details::judged::judge_all(text, &mut parameters, &mut registers, &mut variables);
     match verdict {
-        Verdict::Accepted(_, _, _) => {
-            map::show_map(out, text, judging, &parameters, &registers, &variables)
-        }
-        Verdict::Refused(rule, place) => show_refused(
+        Ok(_) => map::show_map(out, text, judging, &parameters, &registers, &variables),
+        Err(Refused { number, place }) => show_refused(
             out,
             text,
             judging,
             &parameters,
             &registers,
             &variables,
-            rule,
+            number,
             place,
         ),
     }
@@ -65,7 +67,7 @@ fn explain(out: &mut impl io::Write, text: &[u8], verdict: Verdict) -> io::Resul
 fn tell(out: &mut impl io::Write, text: &[u8]) -> io::Result<()> {
     let mut line = [0u8; 80];
     let end = lines::line_on(text, &mut line);
-    write(out, &line[..end])?;
+    out.write_all(&line[..end])?;
     if 8192 < text.len() {
         rule::show_rule(out, 2)?;
         return section::show_section(out, 2);

@@ -1,64 +1,39 @@
 // The token of a declaration in which a fault lies, for the second caret.
+use syntax::kinds::SEMICOLON;
 use token::Token;
-use wording::write::span;
 
-const SEMICOLON: u16 = 315;
-
-// What is looked for: a token of this kind behind one of that kind, 0 standing for any; or a mask that has another
-// number of elements.
-#[derive(Clone, Copy)]
-pub enum Sought {
-    Kind(u16, u16),
-    Mask(usize),
-}
-
-fn is_kind(kind: u16, sought: u16) -> bool {
-    (sought == 0) | (kind == sought)
-}
-
-fn is_mask(token: Token, width: usize) -> bool {
-    match token {
-        Token::Bits(_, length) => length != width,
-        Token::Name(_, _) => false,
-        Token::Word(_, _) => false,
-        Token::Number(_, _) => false,
-        Token::Sign(_, _) => false,
-        Token::End(_) => false,
-        Token::Bad(_) => false,
-    }
-}
-
-fn is_sought(token: Token, before: u16, sought: Sought) -> bool {
-    match sought {
-        Sought::Kind(kind, behind) => is_kind(token::kind_of(token), kind)
-            & is_kind(before, behind),
-        Sought::Mask(width) => is_mask(token, width),
-    }
-}
-
-// The place of the nth such token from a place on, up to the declaration's end; the text's length where there is none.
-pub fn nth_sought(text: &[u8], from: usize, sought: Sought, n: usize) -> usize {
+// The place of the nth token from a place on, up to the declaration's end, that passes a test of it and of the kind of
+// the one before it.
+pub fn nth_sought<P: Fn(Token, Option<u16>) -> bool>(
+    text: &[u8],
+    from: usize,
+    n: usize,
+    passes: P,
+) -> Option<usize>
+    requires { P.IsAlwaysCallable passes }
+{
     let mut at = from;
-    let mut before = 0;
+    let mut before = None;
     let mut left = n;
-    let mut room = text.len();
-    while 0 < room {
+    for _ in 0..text.len() {
         let found = token_reader::scan_at(text, at);
         let token = found.token;
-        let kind = token::kind_of(token);
-        let passes = is_sought(token, before, sought);
-        if passes & (left <= 1) {
-            return token::place_of(token);
+        if passes(token, before) {
+            if left <= 1 {
+                return Some(token.place());
+            }
+            left -= 1;
         }
-        if kind == SEMICOLON {
-            return text.len();
+        if token.kind() == SEMICOLON {
+            return None;
         }
-        if passes {
-            left = span(1, left);
-        }
-        before = kind;
+        before = Some(token.kind());
         at = found.next;
-        room -= 1;
     }
-    text.len()
+    None
+}
+
+// The nth token of a kind.
+pub fn nth_of_kind(text: &[u8], from: usize, n: usize, kind: u16) -> Option<usize> {
+    nth_sought(text, from, n, |token, _| token.kind() == kind)
 }

@@ -2,32 +2,27 @@
 // last may go without. Several texts are in one input that way.
 #![tactic(auto)]
 
-ghost use Rattle.std.specs.Prelude.{◌≡◌, length};
-ghost use Rattle.frames.specs.Frames.{headed, ends_at, enclosed, framed, headed_at, frame_at};
-
-use script::Number;
+ghost use Rattle.std.specs.Prelude.{◌≡◌, length, IfSome};
+ghost use Rattle.frames.specs.Frames.{headed, ends_at, enclosed, headed_at, frame_at, Lies};
 
 // Bytes from `start` to `end`, and where the next frame may begin.
-#[derive(Clone, Copy)]
-pub enum Frame {
-    Text {
-        start: usize,
-        end: usize,
-        next: usize,
-    },
-    Nothing,
+#[derive(Clone, Copy, PartialEq, Eq)]
+pub struct Frame {
+    pub start: usize,
+    pub end: usize,
+    pub next: usize,
 }
 
 // How many bytes a line says there are that it heads.
-fn length_of(line: &[u8], head: &[u8]) -> Number
+fn length_of(line: &[u8], head: &[u8]) -> Option<u64>
     ensures { result ≡ headed head.now line.now }
 {
     let tail = script::rest(line);
     let third = script::word(script::rest(tail));
-    if script::is(script::word(line), head) & (third.len() == 0) {
+    if script::is(script::word(line), head) & third.is_empty() {
         script::number_of(script::word(tail))
     } else {
-        Number::Nothing
+        None
     }
 }
 
@@ -35,59 +30,39 @@ fn length_of(line: &[u8], head: &[u8]) -> Number
 fn ends_at(input: &[u8], at: usize) -> bool
     ensures { result ≡ ends_at input.now at }
 {
-    if at < input.len() {
-        input[at] == b'\n'
-    } else {
-        true
-    }
+    at >= input.len() || input[at] == b'\n'
 }
 
-fn enclose(input: &[u8], start: usize, bytes: usize) -> Frame
+fn enclose(input: &[u8], start: usize, bytes: usize) -> Option<Frame>
     ensures { result ≡ enclosed input.now start bytes }
 {
-    if input.len() < start {
-        return Frame::Nothing;
-    }
-    if input.len() - start < bytes {
-        return Frame::Nothing;
-    }
-    let end = start + bytes;
-    if ends_at(input, end) {
-        Frame::Text {
-            start,
-            end,
-            next: end + 1,
-        }
+    let end = start.checked_add(bytes)?;
+    if end <= input.len() && ends_at(input, end) {
+        let next = end + 1;
+        Some(Frame { start, end, next })
     } else {
-        Frame::Nothing
-    }
-}
-
-fn frame_of(input: &[u8], start: usize, bytes: Number) -> Frame
-    ensures { result ≡ framed input.now start bytes }
-{
-    match bytes {
-        Number::Is(count) => enclose(input, start, count as usize),
-        Number::Nothing => Frame::Nothing,
+        None
     }
 }
 
 // The frame at a place that this word heads: it is found where its line stands there and all of its bytes are in the
 // input.
-pub fn headed_at(input: &[u8], at: usize, head: &[u8]) -> Frame
-    ensures { result ≡ headed_at head.now input.now at }
+pub fn headed_at(input: &[u8], at: usize, head: &[u8]) -> Option<Frame>
+    ensures found { result ≡ headed_at head.now input.now at }
+    ensures within { IfSome result (Lies input.now at) }
 {
     if input.len() <= at {
-        return Frame::Nothing;
+        return None;
     }
     let end = script::line_end(input, at);
-    let bytes = length_of(&input[at..end], head);
-    frame_of(input, end + 1, bytes)
+    let bytes = length_of(&input[at..end], head)?;
+    enclose(input, end + 1, bytes as usize)
 }
 
 // The text at a place.
-pub fn frame_at(input: &[u8], at: usize) -> Frame
-    ensures { result ≡ frame_at input.now at }
+pub fn frame_at(input: &[u8], at: usize) -> Option<Frame>
+    ensures found { result ≡ frame_at input.now at }
+    ensures within { IfSome result (Lies input.now at) }
 {
     headed_at(input, at, b"text")
 }

@@ -12,8 +12,8 @@ use lib.Seq.{sets, length-sets, length-take-le, take_all, drop-cons, drop-set-lt
 use borrow.Author.Tests.{ltb-true, ltb-false, leb-true, leb-false, lt-ltb, le-ltb}
 use Rattle.token.specs.Bytes.{bytes}
 use Rattle.loader.specs.Load.{Sized, Loaded, loaded, lent_as, is_short, is_long, load_of}
-use Rattle.loader.specs.declared.whole.Verdict.{Verdict}
-use Rattle.loader.specs.declared.whole.Verdict.TheVariants.{Accepted, Refused}
+use Rattle.std.specs.Prelude.{Ok, Err}
+use Rattle.loader.specs.Verdict.{Verdict}
 use Rattle.lines.specs.Lines.{digits_before, decimal, numbered, line_of, Put, verdict_on, Line}
 use Rattle.logic.proofs.Tests.{and_left, and_right}
 
@@ -52,13 +52,6 @@ putting-more {before} {what} {here} {next} {at} {k} p l e =
       to-come =
           p.to-come ∙ ap (λ (w : List ℕ). sets here (at + k) w) (drop-cons what k 0 l)
           ∙ ap (λ (n : ℕ). sets (set here (at + k) (get_or what k 0)) n (drop (suc k) what)) s ∙ rw (e, add-one);
-    }
-
-pub putting-all : {before what here : List ℕ} {at k : ℕ} → Putting before at what here k → length what ≤ k → Put before at what here (at + k)
-putting-all {before} {what} {here} {at} {k} p l =
-    record {
-      stored = sym (p.to-come ∙ rw (drop_of_length-le what l));
-      behind = let q : k ≡ length what = omega (arith, p.within) in ap (λ (n : ℕ). at + n) q;
     }
 
 -- ---- digits
@@ -158,28 +151,28 @@ number-near word n = omega (arith, length-append word (decimal n), decimal-short
 
 pub line-short : (v : Verdict) → length (line_of v) ≤ 80
 unfolding line_of
-line-short (Accepted p r v) =
-    let a = numbered (bytes "accepted ") p in
-    let b = numbered (bytes " ") r in
-    let c = numbered (bytes " ") v in
+line-short (Ok counts) =
+    let a = numbered (bytes "accepted ") counts.parameters in
+    let b = numbered (bytes " ") counts.registers in
+    let c = numbered (bytes " ") counts.variables in
     omega (
       arith,
       length-append (a ++ b ++ c) (10 ∷ []),
       length-append (a ++ b) c,
       length-append a b,
-      number-near (bytes "accepted ") p,
-      number-near (bytes " ") r,
-      number-near (bytes " ") v,
+      number-near (bytes "accepted ") counts.parameters,
+      number-near (bytes " ") counts.registers,
+      number-near (bytes " ") counts.variables,
     )
-line-short (Refused n p) =
-    let a = numbered (bytes "refused ") n in
-    let b = numbered (bytes " ") p in
+line-short (Err r) =
+    let a = numbered (bytes "refused ") r.number in
+    let b = numbered (bytes " ") r.place in
     omega (
       arith,
       length-append (a ++ b) (10 ∷ []),
       length-append a b,
-      number-near (bytes "refused ") n,
-      number-near (bytes " ") p,
+      number-near (bytes "refused ") r.number,
+      number-near (bytes " ") r.place,
     )
 
 -- tables of their stated sizes answer what the text alone decides

@@ -1,9 +1,8 @@
 -- A verdict as one line: `accepted P R V` or `refused N PLACE`, and a newline.
-use Rattle.std.specs.Prelude.{ℕ, zero, suc, ◌+◌, ◌≤◌, ◌/◌, ◌%◌, ◌≡◌, true, false, cond, List, [], ◌∷◌, ◌++◌, ltb, length, take}
+use Rattle.std.specs.Prelude.{ℕ, Ok, Err, zero, suc, ◌+◌, ◌≤◌, ◌/◌, ◌%◌, ◌≡◌, true, false, cond, List, [], ◌∷◌, ◌++◌, ltb, length, take}
 use Rattle.std.proofs.lemmas.List.Edits.{sets}
 use Rattle.token.specs.Bytes.{bytes}
-use Rattle.loader.specs.declared.whole.Verdict.{Verdict}
-use Rattle.loader.specs.declared.whole.Verdict.TheVariants.{Accepted, Refused}
+use Rattle.loader.specs.Verdict.{Verdict, refused}
 use Rattle.loader.specs.Load.{is_long, judged, verdict_of}
 
 -- the digits of a number in front of what follows, `most` of them at most
@@ -20,9 +19,9 @@ unfoldable pub numbered : List ℕ → ℕ → List ℕ
 numbered word n = word ++ decimal n
 
 unfoldable pub line_of : Verdict → List ℕ
-line_of (Accepted parameters registers variables) =
-    numbered (bytes "accepted ") parameters ++ numbered (bytes " ") registers ++ numbered (bytes " ") variables ++ 10 ∷ []
-line_of (Refused number place) = numbered (bytes "refused ") number ++ numbered (bytes " ") place ++ 10 ∷ []
+line_of (Ok counts) =
+    numbered (bytes "accepted ") counts.parameters ++ numbered (bytes " ") counts.registers ++ numbered (bytes " ") counts.variables ++ 10 ∷ []
+line_of (Err r) = numbered (bytes "refused ") r.number ++ numbered (bytes " ") r.place ++ 10 ∷ []
 
 -- what putting bytes into a buffer promises: they stand from `at` on, and `next` is the place behind them
 pub record Put (before : List ℕ) (at : ℕ) (what after : List ℕ) (next : ℕ) : Type 0 where
@@ -31,7 +30,7 @@ pub record Put (before : List ℕ) (at : ℕ) (what after : List ℕ) (next : �
 
 -- the verdict on a text in tables of their stated sizes
 unfoldable pub verdict_on : List ℕ → Verdict
-verdict_on text = cond (is_long text) (Refused 2 0) (verdict_of (judged text))
+verdict_on text = cond (is_long text) (refused 2 0) (verdict_of (judged text))
 
 -- the line on a text stands at the start of a buffer of eighty bytes, whole. The last part follows; it is stated so
 -- that lending the line is proved by itself

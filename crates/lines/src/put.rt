@@ -18,15 +18,14 @@ pub fn put_bytes(out: &mut [u8], at: usize, what: &[u8]) -> usize
     requires what_len_bound { length what.now < 2 ^ 32 }
     ensures { Put out.old at what.now out.new result }
 {
-    let mut k = 0;
-    while k < what.len() {
-        put(out, at + k, what[k]);
-        k += 1;
+    for (k, byte) in what.iter().enumerate() {
+        put(out, at + k, *byte);
     }
-    at + k
+    at + what.len()
 }
 
-// The digits of a number, at the end of twenty bytes; where they start.
+// The digits of a number, at the end of twenty bytes; where they start. The number and the place go down together, and
+// either ends the loop, so that no range counts it.
 fn spell(number: u64, digits: &mut [u8]) -> usize
     requires { length digits.old ≡ 20 }
     ensures { (result < 20) × (drop result digits.new ≡ decimal number) }

@@ -2,14 +2,13 @@
 -- Assumes nothing.
 use Prim.Native.Nat.{ℕ, zero, suc, ◌≤◌, ◌<◌}
 use native.Mathlib.Omega.{arith}
-use mathlib.Core.Path.{◌≡◌, refl, sym, ◌∙◌, subst}
+use mathlib.Core.Path.{◌≡◌, refl, sym, ◌∙◌, subst, ap}
 use mathlib.Core.Bool.{Bool, true, false, ◌&&◌, not, false≢true}
 use mathlib.Core.List.{List, ◌++◌}
 use lib.Dec.{leb, ltb}
 use lib.ListN.{length, drop, replicate, length-replicate, length-append}
 use borrow.Author.Tests.{eq-eqb, le-leb, leb-true, leb-false, ltb-false}
-use Rattle.syntax.specs.declared.reader.Step.{Step}
-use Rattle.syntax.specs.declared.reader.Step.TheVariants.{At, Refused as Stopped}
+use Rattle.syntax.specs.Step.{Step}
 use Rattle.syntax.specs.Text.{Progress}
 use Rattle.syntax.proofs.Folded.{reading-folds}
 use Rattle.tables.specs.Every.{every, first_of, zeros, zeros_front}
@@ -19,9 +18,11 @@ use Rattle.tables.specs.Sound as S
 use Rattle.tables.specs.View.{Tables, sound}
 use Rattle.tables.proofs.Laws.{every-at, first-last, first-le}
 use Rattle.tables.proofs.Growth.{so_far-none, so_far-sound}
+use Rattle.std.specs.Prelude.{Option, Some as Broken, None, Ok, Err}
+use Rattle.rules.specs.declared.fault.Fault.{Fault}
 use Rattle.rules.specs.Fault.{is_fault}
 use Rattle.rules.specs.State.{State}
-use Rattle.rules.proofs.FaultLaws.{no_number}
+use Rattle.rules.proofs.FaultLaws.{is-none}
 use Rattle.rules.proofs.Growing.{Growing}
 use Rattle.rules.proofs.NeedLaws.{register-needs, variable-needs}
 use Rattle.rules.proofs.PastLaws.{p-count, r-count, v_count, so_far-past, covers-past}
@@ -59,14 +60,14 @@ pub record Accepting (p : Progress State) : Type 0 where
 
 pub accepting : (p : Progress State) → is_accepted (verdict_of p) ≡ true → Accepting p
 unfolding verdict_of once_read judged_as is_accepted
-accepting p h = go p.step refl (is_fault p.made.fault) refl (ltb (first_uncovered p.made.registers p.made.variables) (count_of p.made.registers)) refl
+accepting p h = go p.step refl p.made.fault refl (ltb (first_uncovered p.made.registers p.made.variables) (count_of p.made.registers)) refl
   where
-    go : (s : Step) → p.step ≡ s → (b : Bool) → is_fault p.made.fault ≡ b
+    go : (s : Step) → p.step ≡ s → (fault : Option Fault) → p.made.fault ≡ fault
         → (c : Bool) → ltb (first_uncovered p.made.registers p.made.variables) (count_of p.made.registers) ≡ c → Accepting p
-    go (Stopped number place) e b f c g = absurd (false≢true (sym (rw e) ∙ h))
-    go (At next) e true f c g = absurd (false≢true (sym (rw (e, f)) ∙ h))
-    go (At next) e false f true g = absurd (false≢true (sym (rw (e, f, g)) ∙ h))
-    go (At next) e false f false g = record { reads = rw e; faultless = f; covering = g }
+    go (Err stop) e b f c g = absurd (false≢true (sym (rw e) ∙ h))
+    go (Ok next) e (Broken x) f c g = absurd (false≢true (sym (rw (e, f)) ∙ h))
+    go (Ok next) e None f true g = absurd (false≢true (sym (rw (e, f, g)) ∙ h))
+    go (Ok next) e None f false g = record { reads = rw e; faultless = ap is_fault f; covering = g }
 
 -- ---- tables that grew without a fault, with every dot mapped, are sound, whatever lies past their sizes
 module _ (p : Progress State) (reached : Reached p) (some : Some p) (a : Accepting p) where
@@ -80,7 +81,7 @@ module _ (p : Progress State) (reached : Reached p) (some : Some p) (a : Accepti
   vs = p.made.variables
 
   grown : Growing p.parameters p.registers p.variables p.made
-  grown = reached.grown (no_number p.made.fault a.faultless)
+  grown = reached.grown (is-none p.made.fault a.faultless)
 
   few-parameters : count_of ps ≤ 16
   few-parameters = omega (arith, grown.parameters-counted, reached.few-parameters)

@@ -1,28 +1,23 @@
 -- Judging in order names the first declaration that breaks a rule: a fault, once there, stays.
 -- Assumes nothing.
-use Prim.Native.Nat.{ℕ, ◌≤◌}
-use native.Mathlib.Omega.{arith}
+use Prim.Native.Nat.{ℕ}
 use mathlib.Core.Path.{◌≡◌, refl, sym, ap, ◌∙◌, subst}
-use mathlib.Core.Bool.{Bool, true, false, not, false≢true}
+use mathlib.Core.Bool.{Bool, true, false, false≢true}
 use mathlib.Core.List.{List, [], ◌∷◌, ◌++◌, foldl, foldl-append, append_assoc, append-nil}
-use borrow.Author.Tests.{ne_eqb}
+use Rattle.std.specs.Prelude.{Option, Some, None}
 use Rattle.syntax.specs.Text.{Declaration, a_device, a_parameter, a_register, a_variable}
 use Rattle.rules.specs.declared.fault.Fault.{Fault}
-use Rattle.rules.specs.Fault.{no_fault, is_fault}
+use Rattle.rules.specs.Fault.{is_fault}
 use Rattle.rules.specs.State.{State, unless_stopped}
 use Rattle.rules.specs.Parameter.{judge_device}
-use Rattle.rules.proofs.FaultLaws.{no_number, has-number}
+use Rattle.rules.proofs.FaultLaws.{is-none}
 use Rattle.loader.specs.Judge.{judge}
 use Rattle.loader.specs.Load.{beginning}
 use Rattle.loader.specs.Claim.{standing, broken_by, AllKeep, FirstBroken}
 use Rattle.loader.proofs.Numbers.{standing-number}
 
-pub is_fault_lem : (f : Fault) → (f.number ≡ 0 → ⊥) → is_fault f ≡ true
-unfolding is_fault
-is_fault_lem f n = ap not (ne_eqb f.number 0 n)
-
-pub not_none : {n : ℕ} → 6 ≤ n → n ≡ 0 → ⊥
-not_none l e = omega arith
+some-none : {x : Fault} → Some x ≡ None → ⊥
+some-none e = cc
 
 stopped-stays : (s next : State) → is_fault s.fault ≡ true → (unless_stopped s next).fault ≡ s.fault
 unfolding unless_stopped
@@ -60,61 +55,56 @@ module _ (text : List ℕ) where
   unfolding AllKeep
   all_keep ds none before after d e = go (is_fault (broken_by text before d)) refl
     where
-      go : (b : Bool) → is_fault (broken_by text before d) ≡ b → (broken_by text before d).number ≡ 0
-      go false h = no_number (broken_by text before d) h
+      go : (b : Bool) → is_fault (broken_by text before d) ≡ b → broken_by text before d ≡ None
+      go false h = is-none (broken_by text before d) h
       go true h =
           let same = ap (λ (x : List Declaration). is_fault (standing text x).fault) e ∙ ap is_fault (broken-is before after d h) in
           absurd (false≢true (sym none ∙ same ∙ h))
 
   -- a fault at the end: a first declaration has it
-  find : (ds before : List Declaration) → is_fault (standing text before).fault ≡ false → is_fault (standing text (before ++ ds)).fault ≡ true
-      → FirstBroken text (before ++ ds) (standing text (before ++ ds)).fault.number (standing text (before ++ ds)).fault.place
+  find : (ds before : List Declaration) (x : Fault) → is_fault (standing text before).fault ≡ false → (standing text (before ++ ds)).fault ≡ Some x
+      → FirstBroken text (before ++ ds) x.number x.place
   unfolding broken_by
-  find [] before none some = absurd (false≢true (sym none ∙ ap (λ (x : List Declaration). is_fault (standing text x).fault) (sym (append-nil before)) ∙ some))
-  find (d ∷ ds) before none some = go (is_fault (broken_by text before d)) refl (find ds (before ++ d ∷ []))
+  find [] before x none some = absurd (false≢true (sym none ∙ ap (λ (l : List Declaration). is_fault (standing text l).fault) (sym (append-nil before)) ∙ ap is_fault some))
+  find (d ∷ ds) before x none some = go (is_fault (broken_by text before d)) refl (find ds (before ++ d ∷ []) x)
     where
       all : List Declaration
       all = before ++ d ∷ ds
 
       go : (b : Bool) → is_fault (broken_by text before d) ≡ b
-          → (is_fault (standing text (before ++ d ∷ [])).fault ≡ false → is_fault (standing text ((before ++ d ∷ []) ++ ds)).fault ≡ true
-          → FirstBroken text ((before ++ d ∷ []) ++ ds) (standing text ((before ++ d ∷ []) ++ ds)).fault.number (standing text ((before ++ d ∷ []) ++ ds)).fault.place)
-          → FirstBroken text all (standing text all).fault.number (standing text all).fault.place
+          → (is_fault (standing text (before ++ d ∷ [])).fault ≡ false → (standing text ((before ++ d ∷ []) ++ ds)).fault ≡ Some x
+          → FirstBroken text ((before ++ d ∷ []) ++ ds) x.number x.place)
+          → FirstBroken text all x.number x.place
       go true h rest =
-          let same = broken-is before ds d h in
           record {
             before = before;
             it = d;
             after = ds;
             splits = refl;
             before-keep = all_keep before none;
-            least = (standing-number text all (has-number (standing text all).fault some)).0;
-            most = (standing-number text all (has-number (standing text all).fault some)).1;
-            number_is = ap (λ (f : Fault). f.number) same;
-            place_is = ap (λ (f : Fault). f.place) same;
+            least = (standing-number text all x some).0;
+            most = (standing-number text all x some).1;
+            breaks = sym (broken-is before ds d h) ∙ some;
           }
       go false h rest =
           let joined : (before ++ d ∷ []) ++ ds ≡ all = append_assoc before (d ∷ []) ds in
           let none' : is_fault (standing text (before ++ d ∷ [])).fault ≡ false = ap (λ (s : State). is_fault s.fault) (standing-last before d) ∙ h in
-          subst (λ (x : List Declaration). FirstBroken text x (standing text x).fault.number (standing text x).fault.place) joined
-          (rest none' (ap (λ (x : List Declaration). is_fault (standing text x).fault) joined ∙ some))
+          subst (λ (l : List Declaration). FirstBroken text l x.number x.place) joined
+          (rest none' (ap (λ (l : List Declaration). (standing text l).fault) joined ∙ some))
 
-  pub first-broken : (ds : List Declaration) → is_fault (standing text ds).fault ≡ true
-      → FirstBroken text ds (standing text ds).fault.number (standing text ds).fault.place
-  unfolding standing beginning is_fault no_fault
-  first-broken ds some = find ds [] refl some
+  pub first-broken : (ds : List Declaration) (x : Fault) → (standing text ds).fault ≡ Some x → FirstBroken text ds x.number x.place
+  unfolding standing beginning
+  first-broken ds x some = find ds [] x refl some
 
   -- the two ways round
-  pub broken-fault : (ds : List Declaration) (number place : ℕ) → FirstBroken text ds number place → (standing text ds).fault ≡ record { number = number; place = place }
+  pub broken-fault : (ds : List Declaration) (number place : ℕ) → FirstBroken text ds number place → (standing text ds).fault ≡ Some (record { number = number; place = place })
   broken-fault ds number place b =
-      let f = broken_by text b.before b.it in
-      let some : is_fault f ≡ true = is_fault_lem f (λ z. not_none b.least (b.number_is ∙ z)) in
-      ap (λ (x : List Declaration). (standing text x).fault) b.splits ∙ broken-is b.before b.after b.it some ∙ rw (b.number_is, b.place_is)
+      ap (λ (l : List Declaration). (standing text l).fault) b.splits ∙ broken-is b.before b.after b.it (ap is_fault b.breaks) ∙ b.breaks
 
-  pub keep-faultless : (ds : List Declaration) → AllKeep text ds → is_fault (standing text ds).fault ≡ false
+  pub keep-faultless : (ds : List Declaration) → AllKeep text ds → (standing text ds).fault ≡ None
   unfolding AllKeep
-  keep-faultless ds keep = go (is_fault (standing text ds).fault) refl
+  keep-faultless ds keep = go (standing text ds).fault refl
     where
-      go : (b : Bool) → is_fault (standing text ds).fault ≡ b → is_fault (standing text ds).fault ≡ false
-      go false e = e
-      go true e = let b = first-broken ds e in absurd (not_none b.least (b.number_is ∙ keep b.before b.after b.it b.splits))
+      go : (f : Option Fault) → (standing text ds).fault ≡ f → (standing text ds).fault ≡ None
+      go None e = e
+      go (Some x) e = let b = first-broken ds x e in absurd (some-none (sym b.breaks ∙ keep b.before b.after b.it b.splits))

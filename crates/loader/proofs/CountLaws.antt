@@ -9,9 +9,9 @@ use Rattle.loader.specs.Judge.{judge}
 use Rattle.loader.proofs.ReadKeeps.{parameters-keep}
 
 -- none of either
-abbrev pub None : Progress State → Type 0
-None p = (p.registers ≡ 0) × (p.variables ≡ 0)
+abbrev pub NoneRead : Progress State → Type 0
+NoneRead p = (p.registers ≡ 0) × (p.variables ≡ 0)
 
-pub none-parameters : (text : List ℕ) (p : Progress State) → None p → None (parameters_with (judge text) text p)
+pub none-parameters : (text : List ℕ) (p : Progress State) → NoneRead p → NoneRead (parameters_with (judge text) text p)
 unfolding counted moved_to
-none-parameters text = parameters-keep (judge text) text None (λ p s i. i) (λ p d next i. i) (λ p d next few sets i. i)
+none-parameters text = parameters-keep (judge text) text NoneRead (λ p s i. i) (λ p d next i. i) (λ p d next few sets i. i)

@@ -6,6 +6,7 @@ use mathlib.Core.Path.{◌≡◌, refl, sym, ap, ◌∙◌, subst}
 use mathlib.Core.Bool.{Bool, true, false, false≢true}
 use mathlib.Core.List.{List, ◌∷◌, ◌++◌, foldl}
 use lib.ListN.{drop, length-replicate}
+use Rattle.std.specs.Prelude.{None}
 use Rattle.syntax.specs.declared.register.Register.{Register}
 use Rattle.syntax.specs.Parameter.{ParameterRead}
 use Rattle.syntax.specs.Variable.{VariableRead}
@@ -16,7 +17,7 @@ use Rattle.rules.specs.Fault.{is_fault}
 use Rattle.rules.specs.State.{State}
 use Rattle.rules.specs.Parameter.{parameter_entry}
 use Rattle.rules.specs.Register.{register_entry}
-use Rattle.rules.proofs.FaultLaws.{no_number}
+use Rattle.rules.proofs.FaultLaws.{is-none}
 use Rattle.loader.specs.Judge.{judge}
 use Rattle.loader.specs.Load.{beginning, judged, verdict_of, is_accepted, left_by, laid_over, is_short, is_long, load_of}
 use Rattle.loader.specs.Claim.{declared, tally, one_parameter, one_register, one_variable, standing}
@@ -108,8 +109,8 @@ module _ (text : List ℕ) (faultless : is_fault (standing text (declared text))
     entire : Entire d
     entire = each_at before after d parts
 
-    kept : next.fault.number ≡ 0
-    kept = no_number next.fault next-whole
+    kept : next.fault ≡ None
+    kept = is-none next.fault next-whole
 
     one-grown : Grows (one_parameter d) (one_register d) (one_variable d) here next
     one-grown = grows_one text here d entire one-room kept
@@ -152,7 +153,7 @@ module _ (text : List ℕ) (faultless : is_fault (standing text (declared text))
   -- ---- all of them, whatever lies behind the tables
   so_far : SoFar last.parameters last.registers last.variables
   unfolding judged remade standing declared
-  so_far = ((reached-judged text).grown (no_number last.fault faultless)).so_far
+  so_far = ((reached-judged text).grown (is-none last.fault faultless)).so_far
 
   pub describes : (t : Tables) → Describes text (laid_over last t)
   unfolding laid_over beginning one_parameter one_register one_variable

@@ -5,6 +5,7 @@ use native.Mathlib.Omega.{arith}
 use mathlib.Core.Path.{◌≡◌}
 use mathlib.Core.List.{List}
 use lib.ListN.{length}
+use Rattle.std.specs.Prelude.{None}
 use Rattle.syntax.specs.declared.register.Register.{Register}
 use Rattle.syntax.specs.Parameter.{ParameterRead}
 use Rattle.syntax.specs.Variable.{VariableRead}
@@ -53,7 +54,7 @@ module _ (stride : ℕ) (t words : List ℕ) (whole : length words ≡ stride) (
 
 module _ (text : List ℕ) (s : State) where
   -- ---- a parameter
-  module _ (d : ParameterRead) (sets : P.Sets d) (room : Roomy 1 0 0 s) (kept : (judge text s (a_parameter d)).fault.number ≡ 0) where
+  module _ (d : ParameterRead) (sets : P.Sets d) (room : Roomy 1 0 0 s) (kept : (judge text s (a_parameter d)).fault ≡ None) where
     parameter-judged : judge text s (a_parameter d) ≡ added_parameter s d
     unfolding judge judge_parameter
     parameter-judged = (judged-kept s (declared_before text s d.parameter.place d.parameter.length) (added_parameter s d) kept).1
@@ -77,11 +78,11 @@ module _ (text : List ℕ) (s : State) where
         rw parameter-judged (appended-held 36 s.parameters (parameter_entry d) (P.entry-long d sets) parameter-fits.0 parameter-fits.1)
 
   -- ---- a register
-  module _ (d : Register) (room : Roomy 0 1 0 s) (kept : (judge text s (a_register d)).fault.number ≡ 0) where
+  module _ (d : Register) (room : Roomy 0 1 0 s) (kept : (judge text s (a_register d)).fault ≡ None) where
     abbrev words : List ℕ
     words = register_entry text s.parameters d
 
-    register_judged : ((register_written text s d).number ≡ 0) × (judge text s (a_register d) ≡ added_register text s d)
+    register_judged : (register_written text s d ≡ None) × (judge text s (a_register d) ≡ added_register text s d)
     unfolding judge judge_register
     register_judged = judged-kept s (register_written text s d) (added_register text s d) kept
 
@@ -104,7 +105,7 @@ module _ (text : List ℕ) (s : State) where
         rw register_judged.1 (appended-held 15 s.registers words (R.entry-long text s d register_judged.0) register-fits.0 register-fits.1)
 
   -- ---- a variable
-  module _ (d : VariableRead) (w : WellRead d.variable) (room : Roomy 0 0 1 s) (kept : (judge text s (a_variable d)).fault.number ≡ 0) where
+  module _ (d : VariableRead) (w : WellRead d.variable) (room : Roomy 0 0 1 s) (kept : (judge text s (a_variable d)).fault ≡ None) where
     variable_judged : judge text s (a_variable d) ≡ added_variable text s d
     unfolding judge judge_variable
     variable_judged = (judged-kept s (early_fault text s d) (added_variable text s d) kept).1

@@ -9,8 +9,7 @@ use mathlib.Core.List.{List}
 use lib.Dec.{ltb}
 use lib.ListN.{get_or}
 use borrow.Author.Tests.{ltb-true, ltb-false, lt-ltb, le-ltb, not-true, not-false}
-use Rattle.syntax.specs.declared.reader.Step.{Step}
-use Rattle.syntax.specs.declared.reader.Step.TheVariants.{At, Refused as Stopped}
+use Rattle.syntax.specs.Step.{Step}
 use Rattle.syntax.specs.Claim.{Right}
 use Rattle.syntax.specs.Text.{Declaration, reading, remade}
 use Rattle.syntax.proofs.Answers.{answers-exactly, reads-exactly}
@@ -19,14 +18,15 @@ use Rattle.tables.specs.View.{Tables}
 use Rattle.rules.specs.declared.fault.Fault.{Fault}
 use Rattle.rules.specs.Fault.{is_fault}
 use Rattle.rules.specs.State.{State}
-use Rattle.rules.proofs.FaultLaws.{no_number}
-use Rattle.loader.specs.declared.whole.Verdict.{Verdict}
-use Rattle.loader.specs.declared.whole.Verdict.TheVariants.{Accepted, Refused}
+use Rattle.std.specs.Prelude.{Option, Some, None, Ok, Err}
+use Rattle.token.specs.declared.Refusal.{Refusal}
+use Rattle.token.specs.Kind.{number_of}
+use Rattle.loader.specs.Verdict.{Verdict, accepted, refused}
 use Rattle.loader.specs.Load.{Loaded, judged, judged_as, is_accepted, left_by, laid_over, first_uncovered, once_read, verdict_of, is_short, is_long, load_of}
-use Rattle.loader.specs.Claim.{declared, tally, one_parameter, one_register, one_variable, Reads, standing, mapped, AllMapped, FirstUnmapped, Unread, RightRead, RightVerdict, Leaves}
+use Rattle.loader.specs.Claim.{declared, tally, one_parameter, one_register, one_variable, Reads, standing, AllKeep, mapped, AllMapped, FirstUnmapped, Unread, RightRead, RightVerdict, Leaves}
 use Rattle.loader.proofs.FirstLaws.{first_passes, first-before, first-all, first-only}
 use Rattle.loader.proofs.Numbers.{reading-number}
-use Rattle.loader.proofs.Breaking.{is_fault_lem, not_none, all_keep, first-broken, broken-fault, keep-faultless}
+use Rattle.loader.proofs.Breaking.{all_keep, first-broken, broken-fault, keep-faultless}
 use Rattle.loader.proofs.Tallied.{tallied}
 use Rattle.loader.proofs.Accepted.{reached-judged}
 
@@ -70,20 +70,22 @@ module _ (text : List ℕ) where
   last = standing text all
 
   -- ---- the verdict, by its three tests
-  by_tests : {step : Step} {b c : Bool} → (reading text).step ≡ step → is_fault last.fault ≡ b → ltb (first last) (count last) ≡ c
-      → verdict_of (judged text)
-      ≡ once_read step
-      (cond b (Refused last.fault.number last.fault.place)
-      (cond c (Refused 16 (get_or last.registers (register_at (first last)) 0)) (Accepted (count_of last.parameters) (count_of last.registers) (count_of last.variables))))
+  abbrev ruled : Option Fault → Bool → Verdict
+  ruled (Some x) c = refused x.number x.place
+  ruled None c = cond c (refused 16 (get_or last.registers (register_at (first last)) 0)) (accepted (count_of last.parameters) (count_of last.registers) (count_of last.variables))
+
+  by_tests : {step : Step} {c : Bool} (fault : Option Fault) → (reading text).step ≡ step → last.fault ≡ fault → ltb (first last) (count last) ≡ c
+      → verdict_of (judged text) ≡ once_read step (ruled fault c)
   unfolding verdict_of judged_as judged remade standing declared
-  by_tests e f g = rw (e, f, g)
+  by_tests (Some x) e f g = rw (e, f)
+  by_tests None e f g = rw (e, f, g)
 
-  reads_at : (end : ℕ) → (reading text).step ≡ At end → Reads text
+  reads_at : (end : ℕ) → (reading text).step ≡ Ok end → Reads text
   unfolding Right
-  reads_at end e = let r = (answers-exactly text (At end)).0 e in (r.1, r.2)
+  reads_at end e = let r = (answers-exactly text (Ok end)).0 e in (r.1, r.2)
 
-  unread : (number place : ℕ) → Right text (Stopped number place) → Unread text number place
-  unread number place r = let n = reading-number text number place r in record { least = n.0; most = n.1; stops = r }
+  unread : (stop : Refusal) → Right text (Err stop) → Unread text (number_of stop.why) stop.place
+  unread stop r = let n = reading-number stop.why in record { least = n.0; most = n.1; why = stop.why; number_is = refl; stops = r }
 
   -- the tables count what the text declares
   record Counts : Type 0 where
@@ -91,31 +93,34 @@ module _ (text : List ℕ) where
     registers : count_of last.registers ≡ tally one_register all
     variables : count_of last.variables ≡ tally one_variable all
 
-  counts : is_fault last.fault ≡ false → Counts
+  counts : last.fault ≡ None → Counts
   unfolding judged remade standing declared
   counts f =
-      let g = (reached-judged text).grown (no_number last.fault f) in
+      let g = (reached-judged text).grown f in
       let t = tallied text in
       record { parameters = g.parameters-counted ∙ t.parameters; registers = g.registers-counted ∙ t.registers; variables = g.variables-counted ∙ t.variables }
+
+  keeps : last.fault ≡ None → AllKeep text all
+  keeps f = all_keep text all (ap is_fault f)
 
   -- ---- the verdict is right
   verdict-right : RightRead text (verdict_of (judged text))
   unfolding RightRead once_read
-  verdict-right = go (reading text).step refl (is_fault last.fault) refl (ltb (first last) (count last)) refl
+  verdict-right = go (reading text).step refl last.fault refl (ltb (first last) (count last)) refl
     where
-      go : (s : Step) → (reading text).step ≡ s → (b : Bool) → is_fault last.fault ≡ b → (c : Bool) → ltb (first last) (count last) ≡ c
+      go : (s : Step) → (reading text).step ≡ s → (fault : Option Fault) → last.fault ≡ fault → (c : Bool) → ltb (first last) (count last) ≡ c
           → RightRead text (verdict_of (judged text))
-      go (Stopped number place) e b f c g = subst (RightRead text) (sym (by_tests e f g)) (inl (unread number place ((answers-exactly text (Stopped number place)).0 e)))
-      go (At end) e true f c g = subst (RightRead text) (sym (by_tests e f g)) (inr (inl (reads_at end e, first-broken text all f)))
-      go (At end) e false f true g =
-          subst (RightRead text) (sym (by_tests e f g))
-          (inr (inr (record { reads = reads_at end e; keeps = all_keep text all f; is_sixteen = refl; misses = unmapped-found last g })))
-      go (At end) e false f false g =
+      go (Err stop) e b f c g = subst (RightRead text) (sym (by_tests b e f g)) (inl (unread stop ((answers-exactly text (Err stop)).0 e)))
+      go (Ok end) e (Some x) f c g = subst (RightRead text) (sym (by_tests (Some x) e f g)) (inr (inl (reads_at end e, first-broken text all x f)))
+      go (Ok end) e None f true g =
+          subst (RightRead text) (sym (by_tests None e f g))
+          (inr (inr (record { reads = reads_at end e; keeps = keeps f; is_sixteen = refl; misses = unmapped-found last g })))
+      go (Ok end) e None f false g =
           let n = counts f in
-          subst (RightRead text) (sym (by_tests e f g))
+          subst (RightRead text) (sym (by_tests None e f g))
           (record {
             reads = reads_at end e;
-            keeps = all_keep text all f;
+            keeps = keeps f;
             maps = all-mapped last g;
             parameters-are = n.parameters;
             registers-are = n.registers;
@@ -125,25 +130,24 @@ module _ (text : List ℕ) where
   -- ---- and no other is
   only-verdict : (v : Verdict) → RightRead text v → verdict_of (judged text) ≡ v
   unfolding RightRead once_read
-  only-verdict (Refused number place) (inl r) = by_tests ((answers-exactly text (Stopped number place)).1 r.stops) refl refl
-  only-verdict (Refused number place) (inr (inl b)) =
-      let f = broken-fault text all number place b.1 in
-      by_tests ((reads-exactly text).1 b.0) (ap is_fault f ∙ is_fault_lem (record { number = number; place = place }) (not_none b.1.least)) refl
-      ∙ ap (λ (x : Fault). Refused x.number x.place) f
-  only-verdict (Refused number place) (inr (inr m)) =
+  only-verdict (Err x) (inl r) =
+      by_tests last.fault ((answers-exactly text (Err (record { why = r.why; place = x.place }))).1 r.stops) refl refl
+      ∙ ap (λ (n : ℕ). refused n x.place) (sym r.number_is)
+  only-verdict (Err x) (inr (inl b)) = by_tests (Some (record { number = x.number; place = x.place })) ((reads-exactly text).1 b.0) (broken-fault text all x.number x.place b.1) refl
+  only-verdict (Err x) (inr (inr m)) =
       let u = m.misses in
-      let e = unmapped-first last place u in
-      by_tests ((reads-exactly text).1 m.reads) (keep-faultless text all m.keeps) (lt-ltb (first last) (count last) (omega (arith, u.inside)))
+      let e = unmapped-first last x.place u in
+      by_tests None ((reads-exactly text).1 m.reads) (keep-faultless text all m.keeps) (lt-ltb (first last) (count last) (omega (arith, u.inside)))
       ∙ rw (e, m.is_sixteen, u.place_is)
-  only-verdict (Accepted p r v) a =
+  only-verdict (Ok c) a =
       let f = keep-faultless text all a.keeps in
       let n = counts f in
-      by_tests ((reads-exactly text).1 a.reads) f (mapped-last last a.maps)
+      by_tests None ((reads-exactly text).1 a.reads) f (mapped-last last a.maps)
       ∙ rw (n.parameters, n.registers, n.variables, a.parameters-are, a.registers-are, a.variables-are)
 
   module _ (t : Tables) where
     -- ---- 1 and 2 come first
-    answered : (a b : Bool) → is_short t ≡ a → is_long text ≡ b → (load_of text t).verdict ≡ cond a (Refused 1 0) (cond b (Refused 2 0) (verdict_of (judged text)))
+    answered : (a b : Bool) → is_short t ≡ a → is_long text ≡ b → (load_of text t).verdict ≡ cond a (refused 1 0) (cond b (refused 2 0) (verdict_of (judged text)))
     unfolding load_of
     answered true b e f = rw e
     answered false true e f = rw (e, f)
@@ -173,7 +177,7 @@ module _ (text : List ℕ) where
     verdict-once v w a b = sym (only-answer v a) ∙ only-answer w b
 
     -- ---- what is left
-    from-three : (number place : ℕ) → RightRead text (Refused number place) → 3 ≤ number
+    from-three : (number place : ℕ) → RightRead text (refused number place) → 3 ≤ number
     unfolding RightRead
     from-three number place (inl r) = r.least
     from-three number place (inr (inl r)) = omega (arith, r.1.least)
@@ -181,13 +185,13 @@ module _ (text : List ℕ) where
 
     judged-leaves : (v : Verdict) → verdict_of (judged text) ≡ v → RightRead text v → Leaves text t v (laid_over (left_by (judged text)) t)
     unfolding Leaves left_by is_accepted judged remade standing declared
-    judged-leaves (Accepted p r v) e right = rw e
-    judged-leaves (Refused number place) e right = inr (from-three number place right, rw e)
+    judged-leaves (Ok counts) e right = rw e
+    judged-leaves (Err r) e right = inr (from-three r.number r.place right, rw e)
 
     loaded-by : (a b : Bool) → is_short t ≡ a → is_long text ≡ b
         → load_of text t
-        ≡ cond a (record { verdict = Refused 1 0; tables = t })
-        (cond b (record { verdict = Refused 2 0; tables = t }) (record { verdict = verdict_of (judged text); tables = laid_over (left_by (judged text)) t }))
+        ≡ cond a (record { verdict = refused 1 0; tables = t })
+        (cond b (record { verdict = refused 2 0; tables = t }) (record { verdict = verdict_of (judged text); tables = laid_over (left_by (judged text)) t }))
     unfolding load_of
     loaded-by a b e f = rw (e, f)
 

@@ -2,10 +2,11 @@
 -- Assumes nothing.
 use Prim.Native.Nat.{ℕ, ◌+◌, ◌≤◌, ◌<◌}
 use native.Mathlib.Omega.{arith}
-use mathlib.Core.Path.{◌≡◌, refl, ap, ◌∙◌}
+use mathlib.Core.Path.{◌≡◌, ap, ◌∙◌}
 use mathlib.Core.Bool.{true, cond}
 use mathlib.Core.List.{List}
 use lib.ListN.{length}
+use Rattle.std.specs.Prelude.{None}
 use Rattle.syntax.specs.Variable.{VariableRead}
 use Rattle.tables.specs.Tables.{count_of, variable_at}
 use Rattle.tables.specs.Rules.{variable_fault, variable_shape}
@@ -13,8 +14,9 @@ use Rattle.tables.specs.Sound.{variable_good}
 use Rattle.tables.proofs.Growth.{Added, variable-added}
 use Rattle.rules.specs.State.{State, with_variables}
 use Rattle.rules.specs.Variable.{bad_behaviours, list_of, early_fault, variables_with, late_number, added_variable, judge_variable}
+use Rattle.rules.proofs.FaultLaws.{of-none}
 use Rattle.rules.proofs.JudgingLaws.{unbroken}
-use Rattle.rules.proofs.VariableLaws.{late-none, lowest-none}
+use Rattle.rules.proofs.VariableLaws.{lowest-none}
 use Rattle.loader.proofs.PieceCounts.{WellRead}
 use Rattle.loader.proofs.VariableReady.{early-eleven, variable-length, variable-adds, entry-shaped}
 use Rattle.rules.proofs.Growing.{Growing}
@@ -40,11 +42,11 @@ module _ (text : List ℕ) {p r v : ℕ} (s : State) (d : VariableRead) (g : Gro
   added : Added 59 vs more
   added = variable-adds text s d w (omega (arith, g.variables-long)) (omega (arith, g.variables-counted))
 
-  pub grow-variable : (judge_variable text s d).fault.number ≡ 0 → Growing p r (v + 1) (judge_variable text s d)
+  pub grow-variable : (judge_variable text s d).fault ≡ None → Growing p r (v + 1) (judge_variable text s d)
   unfolding judge_variable added_variable with_variables
   grow-variable none =
       let whole = unbroken s (early_fault text s d) (added_variable text s d) none in
-      let late : late_number text s d ≡ 0 = late-none d.variable.place refl whole.1.1 in
+      let late : late_number text s d ≡ 0 = of-none _ _ whole.1.1 in
       let shape = entry-shaped text s d w fits (early-eleven text s d whole.0) in
       rw whole.1.0
       (record {

@@ -5,11 +5,12 @@ use native.Mathlib.Omega.{arith}
 use mathlib.Core.Path.{◌≡◌, refl, sym, ap, ◌∙◌}
 use mathlib.Core.Bool.{Bool, true, false, false≢true}
 use mathlib.Core.List.{List, [], ◌∷◌, foldl}
+use Rattle.std.specs.Prelude.{None}
 use Rattle.syntax.specs.Text.{Declaration, a_device, a_parameter, a_register, a_variable}
 use Rattle.rules.specs.Fault.{is_fault}
 use Rattle.rules.specs.State.{State}
 use Rattle.rules.specs.Parameter.{judge_device}
-use Rattle.rules.proofs.FaultLaws.{no_number}
+use Rattle.rules.proofs.FaultLaws.{is-none}
 use Rattle.loader.specs.Judge.{judge}
 use Rattle.loader.specs.Claim.{tally, one_parameter, one_register, one_variable}
 use Rattle.loader.proofs.Breaking.{stays}
@@ -53,7 +54,7 @@ module _ {p r v : ℕ} (s : State) where
       }
 
 module _ (text : List ℕ) where
-  pub grows_one : (s : State) (d : Declaration) → Entire d → Roomy (one_parameter d) (one_register d) (one_variable d) s → (judge text s d).fault.number ≡ 0
+  pub grows_one : (s : State) (d : Declaration) → Entire d → Roomy (one_parameter d) (one_register d) (one_variable d) s → (judge text s d).fault ≡ None
       → Grows (one_parameter d) (one_register d) (one_variable d) s (judge text s d)
   unfolding Entire one_parameter one_register one_variable judge judge_device
   grows_one s (a_device d) e m k =
@@ -77,6 +78,6 @@ module _ (text : List ℕ) where
   grows_all (d ∷ ds) s e m k =
       let one = judge text s d in
       let front = room-first s (tally one_parameter ds) (tally one_register ds) (tally one_variable ds) m in
-      let g = grows_one s d e.0 front (no_number one.fault (unbroken one ds k)) in
+      let g = grows_one s d e.0 front (is-none one.fault (unbroken one ds k)) in
       let rest = grows_all ds one e.1 (room_after s one (tally one_parameter ds) (tally one_register ds) (tally one_variable ds) m g) k in
       grows_then s one (foldl (judge text) one ds) (tally one_parameter ds) (tally one_register ds) (tally one_variable ds) g rest

@@ -14,7 +14,7 @@ use borrow.Author.Tests.{eqb-true, ltb-true, ltb-false, le-ltb}
 use Rattle.logic.proofs.Tests.{and_left, and_right, or_left, or_right}
 use Rattle.token.specs.Bytes.{begins}
 use Rattle.token.proofs.Lexemes.{begins-take}
-use Rattle.syntax.specs.declared.reader.Step.{Step}
+use Rattle.syntax.specs.Step.{Step}
 use Rattle.syntax.specs.declared.register.Register.{Register}
 use Rattle.syntax.specs.Variable.{VariableRead}
 use Rattle.tables.specs.Every.{first_of, every}
@@ -22,8 +22,9 @@ use Rattle.tables.specs.Words.{count_of, variable_at, variable_part}
 use Rattle.tables.proofs.Laws.{first-le, first-all, first-same, first-last, every-is}
 use Rattle.tables.proofs.SameLaws.{Alike}
 use Rattle.rules.specs.declared.declared.Judging.{Judging}
+use Rattle.std.specs.Option.{is_some}
 use Rattle.rules.specs.Fault.{is_fault}
-use Rattle.rules.specs.Names.{name_of, stands_at, is_named, held_of, found_below, found_in, is_nothing, is_declared}
+use Rattle.rules.specs.Names.{name_of, stands_at, is_named, held_of, found_below, found_in, is_declared}
 use Rattle.rules.specs.State.{State, state_of, unless_stopped, unless_broken, stopped, with_registers, with_variables}
 use Rattle.rules.specs.Words.{word_of, written, appended}
 use Rattle.rules.specs.Register.{register_written, register_entry, added_register, judge_register}
@@ -77,19 +78,19 @@ module _ (text table : List ℕ) (stride : ℕ) (name : List ℕ) where
   abbrev test : ℕ → Bool
   test i = is_named text table (stride * i + 1) name
 
-  nothing-each : is_nothing (found_in text table stride name) ≡ true → (i : ℕ) → i < held_of stride table → test i ≡ false
-  unfolding found_in found_below is_nothing
+  nothing-each : is_some (found_in text table stride name) ≡ false → (i : ℕ) → i < held_of stride table → test i ≡ false
+  unfolding found_in found_below
   nothing-each e = go (ltb (first_of n test) n) refl
     where
       n : ℕ
       n = held_of stride table
 
       go : (b : Bool) → ltb (first_of n test) n ≡ b → (i : ℕ) → i < n → test i ≡ false
-      go true g = absurd (false≢true (sym (rw g) ∙ e))
+      go true g = absurd (false≢true (sym e ∙ rw g))
       go false g = first-all n test (omega (arith, first-le n test, ltb-false (first_of n test) n g))
 
-  pub each-nothing : ((i : ℕ) → i < held_of stride table → test i ≡ false) → is_nothing (found_in text table stride name) ≡ true
-  unfolding found_in found_below is_nothing
+  pub each-nothing : ((i : ℕ) → i < held_of stride table → test i ≡ false) → is_some (found_in text table stride name) ≡ false
+  unfolding found_in found_below
   each-nothing none =
       let n = held_of stride table in
       let all : every n (λ i. not (test i)) ≡ true = every-is n (λ i. not (test i)) (λ i l. ap not (none i l)) in
@@ -131,8 +132,8 @@ module _ (stride : ℕ) (wide : 2 ≤ stride) (text a b name : List ℕ) (grew :
       let more : stride * (i + 1) ≡ stride * i + stride = omega arith in
       rw (grew.before (stride * i + 1) (omega arith) (omega arith), grew.before (stride * i + 1 + 1) (omega arith) (omega arith))
 
-  pub nothing-more : is_nothing (found_in text a stride name) ≡ true → is_named text b (stride * count_of a + 1) name ≡ false
-      → is_nothing (found_in text b stride name) ≡ true
+  pub nothing-more : is_some (found_in text a stride name) ≡ false → is_named text b (stride * count_of a + 1) name ≡ false
+      → is_some (found_in text b stride name) ≡ false
   unfolding held_of
   nothing-more none new = each-nothing text b stride name (λ i l. go i l (ltb i (count_of a)) refl)
     where
@@ -148,29 +149,20 @@ module _ (stride : ℕ) (wide : 2 ≤ stride) (text a b name : List ℕ) (grew :
 -- ---- a name that nothing declares
 record Undeclared (text : List ℕ) (s : State) (name : List ℕ) : Type 0 where
   device : stands_at text s.place s.extent name ≡ false
-  parameter : is_nothing (found_in text s.parameters 36 name) ≡ true
-  register : is_nothing (found_in text s.registers 15 name) ≡ true
-  variable : is_nothing (found_in text s.variables 59 name) ≡ true
-
-not-not : (b : Bool) → not b ≡ false → b ≡ true
-not-not true e = refl
-not-not false e = absurd (false≢true (sym e))
+  parameter : is_some (found_in text s.parameters 36 name) ≡ false
+  register : is_some (found_in text s.registers 15 name) ≡ false
+  variable : is_some (found_in text s.variables 59 name) ≡ false
 
 undeclared_by : (text : List ℕ) (s : State) (name : List ℕ) → is_declared text s name ≡ false → Undeclared text s name
 unfolding is_declared
 undeclared_by text s name e =
     let d = stands_at text s.place s.extent name in
-    let p = is_nothing (found_in text s.parameters 36 name) in
-    let r = is_nothing (found_in text s.registers 15 name) in
-    let v = is_nothing (found_in text s.variables 59 name) in
-    let three = or_left (d || not p || not r) (not v) e in
-    let two = or_left (d || not p) (not r) three in
-    record {
-      device = or_left d (not p) two;
-      parameter = not-not p (or_right d (not p) two);
-      register = not-not r (or_right (d || not p) (not r) three);
-      variable = not-not v (or_right (d || not p || not r) (not v) e);
-    }
+    let p = is_some (found_in text s.parameters 36 name) in
+    let r = is_some (found_in text s.registers 15 name) in
+    let v = is_some (found_in text s.variables 59 name) in
+    let three = or_left (d || p || r) v e in
+    let two = or_left (d || p) r three in
+    record { device = or_left d p two; parameter = or_right d p two; register = or_right (d || p) r three; variable = or_right (d || p || r) v e }
 
 is_undeclared : (text : List ℕ) (s : State) (name : List ℕ) → Undeclared text s name → is_declared text s name ≡ false
 unfolding is_declared
@@ -267,12 +259,9 @@ module _ (text table : List ℕ) (at : ℕ) {start extent : ℕ} (e : start ≡ 
   unfolding recorded
   entry-number n = n ∙ rw (e, f)
 
-  pub entry-last : (place length : ℕ) {number : ℕ} → (eqb start place && eqb extent length) ≡ true → number ≡ mark_of (name_of text place length)
+  pub entry-last : (place length : ℕ) {number : ℕ} → start ≡ place → extent ≡ length → number ≡ mark_of (name_of text place length)
       → number ≡ mark_of (recorded text table at)
-  entry-last place length t n =
-      let p = eqb-true start place (and_left (eqb start place) (eqb extent length) t) in
-      let l = eqb-true extent length (and_right (eqb start place) (eqb extent length) t) in
-      entry-number (n ∙ rw (p, l))
+  entry-last place length p l n = entry-number (n ∙ rw (p, l))
 
 pub marked-there : (a : List ℕ) {b : List ℕ} {n k : ℕ} → b ≡ set a n 1 → n ≡ k → b ≡ set a k 1
 marked-there a e f = e ∙ rw f
@@ -295,7 +284,6 @@ known-still text ps rs vs map e known = rw e known
 
 pub known-moved : (text ps rs vs map : List ℕ) (l : Loading) {r : Loading} (s : Step) → r ≡ moved_by l s → Known text (state_of l.judging ps rs vs) map
     → Known text (state_of r.judging ps rs vs) map
-unfolding moved_by
 known-moved text ps rs vs map l s e known = rw e known
 
 -- ---- the heading: the device's name, and the parameters' one by one
@@ -327,7 +315,7 @@ module _ (text ps first : List ℕ) where
           let last : i ≡ n = omega (arith, ltb-false i n g) in
           rw last (stands-not text _ _ name (differs map h.long name (recorded text ps (36 * n + 1)) none))
 
-empty-nothing : (text t : List ℕ) (stride : ℕ) (name : List ℕ) → count_of t ≡ 0 → is_nothing (found_in text t stride name) ≡ true
+empty-nothing : (text t : List ℕ) (stride : ℕ) (name : List ℕ) → count_of t ≡ 0 → is_some (found_in text t stride name) ≡ false
 unfolding held_of
 empty-nothing text t stride name e = each-nothing text t stride name (λ i l. absurd (omega (arith, l, e, min-le_left (count_of t) ((length t - 1) / stride))))
 

@@ -9,8 +9,7 @@ use lib.Dec.{ltb}
 use lib.Seq.{length-take-le}
 use borrow.Author.Tests.{ltb-false, le-ltb}
 use lib.ListN.{length, take, drop, replicate, length-replicate}
-use Rattle.syntax.specs.declared.reader.Step.{Step}
-use Rattle.syntax.specs.declared.reader.Step.TheVariants.{At}
+use Rattle.syntax.specs.Step.{Step}
 use Rattle.syntax.specs.Reader.{fixed_after}
 use Rattle.syntax.specs.Text.{Progress, moved_to, parameters_with, declarations_with, reading_with}
 use Rattle.syntax.proofs.Folded.{reading-folds}
@@ -21,16 +20,18 @@ use Rattle.tables.proofs.SoundLaws.{mapped-none}
 use Rattle.tables.proofs.ScanLaws.{uncovered-says}
 use Rattle.tables.specs.View.{Tables}
 use Rattle.rules.specs.declared.fault.Fault.{Fault}
-use Rattle.rules.specs.Fault.{is_fault}
 use Rattle.rules.specs.State.{State, state_of}
 use Rattle.loader.specs.declared.heading.Loading.{Loading}
-use Rattle.loader.specs.declared.whole.Verdict.{Verdict}
+use Rattle.std.specs.Prelude.{Option, Some, None, Ok, Err}
+use Rattle.std.specs.Result.{is_err}
+use Rattle.token.specs.declared.Refusal.{Refusal}
+use Rattle.token.specs.Kind.{number_of}
+use Rattle.loader.specs.Verdict.{Verdict, refused}
 use Rattle.loader.specs.Judge.{judge, progress_of, at_start, moved_by}
 use Rattle.loader.specs.Ready.{Ready}
 use Rattle.loader.specs.Load.{lent_as, tables_of, Sized, beginning, judged, judged_as, first_uncovered, once_read, verdict_of, is_accepted, left_by, is_short, is_long, loaded, laid_over, load_of}
 use Rattle.loader.proofs.LoadSteps.{moved_to_lem}
-use Rattle.loader.proofs.CountLaws.{None, none-parameters}
-use Rattle.rules.proofs.FaultLaws.{no_number}
+use Rattle.loader.proofs.CountLaws.{NoneRead, none-parameters}
 
 -- at the start, tables of zeros
 pub record Blank (ps rs vs : List ℕ) : Type 0 where
@@ -44,14 +45,14 @@ blank-is ps rs vs e =
     record { parameters = ap (λ (t : Tables). t.parameters) e; registers = ap (λ (t : Tables). t.registers) e; variables = ap (λ (t : Tables). t.variables) e }
 
 abbrev first : Progress State
-first = record { parameters = 0; registers = 0; variables = 0; made = beginning; step = At 0 }
+first = record { parameters = 0; registers = 0; variables = 0; made = beginning; step = Ok 0 }
 
 starts : (ps rs vs : List ℕ) → Blank ps rs vs → progress_of at_start ps rs vs ≡ first
 unfolding progress_of state_of beginning at_start
 starts ps rs vs b = rw (b.parameters, b.registers, b.variables)
 
 -- nothing is counted or marked yet
-ready_at : (p : Progress State) → None p → p.made.registers ≡ replicate 961 0 → p.made.variables ≡ replicate 7553 0
+ready_at : (p : Progress State) → NoneRead p → p.made.registers ≡ replicate 961 0 → p.made.variables ≡ replicate 7553 0
     → Ready p (replicate 4096 0) (replicate 4096 0)
 unfolding every
 ready_at p none r v =
@@ -79,8 +80,8 @@ module _ (text : List ℕ) (ps rs vs : List ℕ) (blank : Blank ps rs vs) where
     from_start : progress_of headed qs rs vs ≡ parameters_with (judge text) text first
     from_start = p ∙ ap (λ (l : Loading). parameters_with (judge text) text (progress_of l ps rs vs)) s ∙ ap (parameters_with (judge text) text) (starts ps rs vs blank)
 
-    counted_none : None (progress_of headed qs rs vs)
-    counted_none = subst None (sym from_start) (none-parameters text first (refl, refl))
+    counted_none : NoneRead (progress_of headed qs rs vs)
+    counted_none = subst NoneRead (sym from_start) (none-parameters text first (refl, refl))
 
     pub ready-start : {reads writes : List ℕ} → reads ≡ replicate 4096 0 → writes ≡ replicate 4096 0 → Ready (progress_of headed qs rs vs) reads writes
     unfolding progress_of state_of
@@ -96,17 +97,14 @@ module _ (text : List ℕ) (ps rs vs : List ℕ) (blank : Blank ps rs vs) where
         ∙ reading-is text
 
 -- rule 16 is asked for only where no rule is broken before
-judged-same : (fault : Fault) (a b : ℕ) (ps rs vs : List ℕ) → (fault.number ≡ 0 → a ≡ b) → judged_as fault a ps rs vs ≡ judged_as fault b ps rs vs
+judged-same : (fault : Option Fault) (a b : ℕ) (ps rs vs : List ℕ) → (fault ≡ None → a ≡ b) → judged_as fault a ps rs vs ≡ judged_as fault b ps rs vs
 unfolding judged_as
-judged-same fault a b ps rs vs h = go (is_fault fault) refl
-  where
-    go : (c : Bool) → is_fault fault ≡ c → judged_as fault a ps rs vs ≡ judged_as fault b ps rs vs
-    go true e = rw e
-    go false e = ap (λ (n : ℕ). judged_as fault n ps rs vs) (h (no_number fault e))
+judged-same (Some x) a b ps rs vs h = refl
+judged-same None a b ps rs vs h = ap (λ (n : ℕ). judged_as None n ps rs vs) (h refl)
 
 uncovered-is : (p : Progress State) {first : ℕ} {reads writes : List ℕ} → Ready p reads writes
     → first ≡ first_of (count_of p.made.registers) (λ i. not (covered_by p.made.registers reads 0 i && covered_by p.made.registers writes 1 i))
-    → p.made.fault.number ≡ 0 → first ≡ first_uncovered p.made.registers p.made.variables
+    → p.made.fault ≡ None → first ≡ first_uncovered p.made.registers p.made.variables
 unfolding first_uncovered
 uncovered-is p ready e z =
     let m = ready.mapped z in
@@ -114,12 +112,16 @@ uncovered-is p ready e z =
 
 -- the verdict, over what the calls answered
 module _ (text : List ℕ) (all : Loading) (ps rs vs : List ℕ) (read : progress_of all ps rs vs ≡ judged text) where
-  pub verdict-is : {first : ℕ} {rules answer : Verdict} {reads writes : List ℕ} → Ready (progress_of all ps rs vs) reads writes
+  pub verdict-unread : {refusal : Refusal} → all.step ≡ Err refusal → refused (number_of refusal.why) refusal.place ≡ verdict_of (judged text)
+  unfolding verdict_of progress_of once_read
+  verdict-unread e = rw (← read, e)
+
+  pub verdict-is : {first next : ℕ} {answer : Verdict} {reads writes : List ℕ} → all.step ≡ Ok next → Ready (progress_of all ps rs vs) reads writes
       → first ≡ first_of (count_of rs) (λ i. not (covered_by rs reads 0 i && covered_by rs writes 1 i))
-      → rules ≡ judged_as all.judging.fault first ps rs vs → answer ≡ once_read all.step rules → answer ≡ verdict_of (judged text)
-  unfolding verdict_of progress_of state_of
-  verdict-is ready u j a =
-      a ∙ ap (once_read all.step) (j ∙ judged-same all.judging.fault _ _ ps rs vs (uncovered-is (progress_of all ps rs vs) ready u)) ∙ ap verdict_of read
+      → answer ≡ judged_as all.judging.fault first ps rs vs → answer ≡ verdict_of (judged text)
+  unfolding verdict_of progress_of state_of once_read
+  verdict-is goes ready u j =
+      j ∙ judged-same all.judging.fault _ _ ps rs vs (uncovered-is (progress_of all ps rs vs) ready u) ∙ rw (← read, goes)
 
   pub tables-left : lent_as ps rs vs ≡ tables_of (judged text).made
   unfolding progress_of state_of tables_of
@@ -132,14 +134,22 @@ unfolding lent_as tables_of beginning
 cleared-blank ps rs vs sized a b c = rw (a, b, c, sized.parameters, sized.registers, sized.variables)
 
 -- what the answer leaves
-module _ (text : List ℕ) {verdict : Verdict} {answer : Bool} {t : Tables} (v : verdict ≡ verdict_of (judged text)) (a : answer ≡ is_accepted verdict) where
-  pub left-accepted : answer ≡ true → t ≡ tables_of (judged text).made → t ≡ tables_of (left_by (judged text))
-  unfolding left_by
-  left-accepted h e = e ∙ rw (← v, ← a, h)
+module _ (text : List ℕ) {answer : Verdict} {t : Tables} (v : answer ≡ verdict_of (judged text)) where
+  pub left-accepted : is_err answer ≡ false → t ≡ tables_of (judged text).made → t ≡ tables_of (left_by (judged text))
+  unfolding left_by is_accepted
+  left-accepted h e = e ∙ rw (← v, go answer h)
+    where
+      go : (a : Verdict) → is_err a ≡ false → is_accepted a ≡ true
+      go (Ok counts) h = refl
+      go (Err r) h = absurd (false≢true (sym h))
 
-  pub left-refused : answer ≡ false → t ≡ tables_of beginning → t ≡ tables_of (left_by (judged text))
-  unfolding left_by
-  left-refused h e = e ∙ rw (← v, ← a, h)
+  pub left-refused : is_err answer ≡ true → t ≡ tables_of beginning → t ≡ tables_of (left_by (judged text))
+  unfolding left_by is_accepted
+  left-refused h e = e ∙ rw (← v, go answer h)
+    where
+      go : (a : Verdict) → is_err a ≡ true → is_accepted a ≡ false
+      go (Err r) h = refl
+      go (Ok counts) h = absurd (false≢true h)
 
 -- tables that are not short
 pub record Long (p r v : ℕ) : Type 0 where
@@ -147,14 +157,18 @@ pub record Long (p r v : ℕ) : Type 0 where
   pub registers : 961 ≤ r
   pub variables : 7553 ≤ v
 
-pub long-enough : (p r v : ℕ) → (ltb p 577 || ltb r 961 || ltb v 7553) ≡ false → Long p r v
-long-enough p r v h = go (ltb p 577) (ltb r 961) (ltb v 7553) refl refl refl h
+between : (p r v : ℕ) → (ltb p 577 || ltb r 961 || ltb v 7553) ≡ false → Long p r v
+between p r v h = go (ltb p 577) (ltb r 961) (ltb v 7553) refl refl refl h
   where
     go : (a b c : Bool) → ltb p 577 ≡ a → ltb r 961 ≡ b → ltb v 7553 ≡ c → (a || b || c) ≡ false → Long p r v
     go false false false e f g h = record { parameters = ltb-false p 577 e; registers = ltb-false r 961 f; variables = ltb-false v 7553 g }
     go true b c e f g h = absurd (false≢true (sym h))
     go false true c e f g h = absurd (false≢true (sym h))
     go false false true e f g h = absurd (false≢true (sym h))
+
+pub long-enough : (ps rs vs : List ℕ) {short : Bool} → short ≡ is_short (lent_as ps rs vs) → short ≡ false → Long (length ps) (length rs) (length vs)
+unfolding is_short lent_as
+long-enough ps rs vs is none = between (length ps) (length rs) (length vs) (sym is ∙ none)
 
 pub sized-parts : (ps rs vs : List ℕ) → Long (length ps) (length rs) (length vs) → Sized (take 577 ps) (take 961 rs) (take 7553 vs)
 sized-parts ps rs vs l =
@@ -165,11 +179,11 @@ sized-parts ps rs vs l =
     }
 
 -- loading, where neither 1 nor 2 is given
-pub loaded-is : (text ps rs vs p r v : List ℕ) {answer : Verdict} → (ltb (length ps) 577 || ltb (length rs) 961 || ltb (length vs) 7553) ≡ false → length text ≤ 8192
+pub loaded-is : (text ps rs vs p r v : List ℕ) {answer : Verdict} {short : Bool} → short ≡ is_short (lent_as ps rs vs) → short ≡ false → length text ≤ 8192
     → answer ≡ verdict_of (judged text) → lent_as p r v ≡ tables_of (left_by (judged text))
     → loaded answer (p ++ drop 577 ps) (r ++ drop 961 rs) (v ++ drop 7553 vs) ≡ load_of text (lent_as ps rs vs)
-unfolding load_of is_short is_long loaded lent_as tables_of laid_over
-loaded-is text ps rs vs p r v {answer} short long a e =
-    rw (short, le-ltb 8192 (length text) long)
+unfolding load_of is_long loaded lent_as tables_of laid_over
+loaded-is text ps rs vs p r v {answer} is none long a e =
+    rw (sym is ∙ none, le-ltb 8192 (length text) long)
     (ap (λ (x : Verdict). loaded x (p ++ drop 577 ps) (r ++ drop 961 rs) (v ++ drop 7553 vs)) a
     ∙ ap (λ (t : Tables). loaded (verdict_of (judged text)) (t.parameters ++ drop 577 ps) (t.registers ++ drop 961 rs) (t.variables ++ drop 7553 vs)) e)

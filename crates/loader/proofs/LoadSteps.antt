@@ -4,7 +4,7 @@ use Prim.Native.Nat.{ℕ}
 use mathlib.Core.Path.{◌≡◌, refl, ap, ◌∙◌}
 use mathlib.Core.List.{List}
 use lib.ListN.{length}
-use Rattle.syntax.specs.declared.reader.Step.{Step}
+use Rattle.syntax.specs.Step.{Step}
 use Rattle.syntax.specs.declared.reader.Seen.{Seen}
 use Rattle.syntax.specs.Reader.{seen_at, fixed_after}
 use Rattle.syntax.specs.Text.{Progress, moved_to, head_with, parameter_with, more_parameters, parameters_with, declaration_with, more_declarations, declarations_with}
@@ -13,7 +13,7 @@ use Rattle.rules.specs.State.{State}
 use Rattle.loader.specs.Judge.{judge, progress_of, moved_by}
 
 moved-is : (l : Loading) (s : Step) (ps rs vs : List ℕ) → progress_of (moved_by l s) ps rs vs ≡ moved_to (progress_of l ps rs vs) s
-unfolding progress_of moved_by moved_to
+unfolding progress_of moved_to
 moved-is l s ps rs vs = refl
 
 -- a move, over what the call answered

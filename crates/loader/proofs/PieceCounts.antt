@@ -9,7 +9,7 @@ use mathlib.Core.List.{List}
 use lib.Dec.{eqb, leb}
 use lib.ListN.{length}
 use borrow.Author.Tests.{leb-true, leb-false}
-use Rattle.syntax.specs.declared.reader.Step.{Step}
+use Rattle.syntax.specs.Step.{Step}
 use Rattle.syntax.specs.declared.reader.Named.{Named}
 use Rattle.syntax.specs.declared.variable.Tail.{Tail}
 use Rattle.syntax.specs.declared.variable.Variable.{Variable}
@@ -22,7 +22,7 @@ use Rattle.syntax.specs.Variable.{second_marked, second_after, rest_after, varia
 
 -- one to eight pieces
 abbrev Some : Filed → Type 0
-Some f = (1 ≤ f.listed.count) × (f.listed.count ≤ 8)
+Some f = (1 ≤ f.listed.value) × (f.listed.value ≤ 8)
 
 -- a second list, if there is one, has a piece
 abbrev Second : Tail → Type 0
@@ -44,7 +44,7 @@ module _ (text : List ℕ) where
   unfolding items_after more_items item_turn
   items-some item kind one count table s h =
       loop-keeps text (λ f. f.listed.step) (λ k. eqb k kind) (item_turn text item kind) Some
-      (λ f e i. one f.listed.count f.table (seen_at text f.listed.step).past i.1) (length text) (item count table s) (one count table s h)
+      (λ f e i. one f.listed.value f.table (seen_at text f.listed.step).past i.1) (length text) (item count table s) (one count table s h)
 
   range-some : (place extent count : ℕ) (table : List ℕ) (s : Step) → count ≤ 8 → Some (range_piece text place extent count table s)
   unfolding range_piece
@@ -70,35 +70,35 @@ module _ (text : List ℕ) where
   unfolding pieces_after
   pieces-some table s = items-some (piece_after text) 291 piece-some 0 table s (omega arith)
 
-  marked-second : (mark : ℕ) (table : List ℕ) (s : Step) → Second (second_marked text mark table s).tail
+  marked-second : (mark : ℕ) (table : List ℕ) (s : Step) → Second (second_marked text mark table s).tail.value
   unfolding second_marked
   marked-second mark table s = by (eqb (seen_at text s).kind 533) refl
     where
-      by : (b : Bool) → eqb (seen_at text s).kind 533 ≡ b → Second (second_marked text mark table s).tail
+      by : (b : Bool) → eqb (seen_at text s).kind 533 ≡ b → Second (second_marked text mark table s).tail.value
       by true e = rw e (inl refl, omega arith)
       by false e = let all = pieces-some table s in rw e (inr all.0, all.1)
 
-  after-second : (table : List ℕ) (s : Step) → Second (second_after text table s).tail
+  after-second : (table : List ℕ) (s : Step) → Second (second_after text table s).tail.value
   unfolding second_after
   after-second table s = by (eqb (seen_at text s).kind 538) refl
     where
-      by : (b : Bool) → eqb (seen_at text s).kind 538 ≡ b → Second (second_after text table s).tail
+      by : (b : Bool) → eqb (seen_at text s).kind 538 ≡ b → Second (second_after text table s).tail.value
       by true e = rw e (inl refl, omega arith)
       by false e = rw e (marked-second _ table _)
 
-  rest-second : (table : List ℕ) (s : Step) → Second (rest_after text table s).tail
+  rest-second : (table : List ℕ) (s : Step) → Second (rest_after text table s).tail.value
   unfolding rest_after
   rest-second table s = by (eqb (seen_at text s).kind 300) refl
     where
-      by : (b : Bool) → eqb (seen_at text s).kind 300 ≡ b → Second (rest_after text table s).tail
+      by : (b : Bool) → eqb (seen_at text s).kind 300 ≡ b → Second (rest_after text table s).tail.value
       by true e = rw e (after-second table _)
       by false e = rw e (inl refl, omega arith)
 
-  type-kind : (s : Step) → leb (type_after text s).kind 2 ≡ true
+  type-kind : (s : Step) → leb (type_after text s).value.kind 2 ≡ true
   unfolding type_after int_after
   type-kind s = by (eqb (seen_at text s).kind 514) (eqb (seen_at text s).kind 540) refl refl
     where
-      by : (a b : Bool) → eqb (seen_at text s).kind 514 ≡ a → eqb (seen_at text s).kind 540 ≡ b → leb (type_after text s).kind 2 ≡ true
+      by : (a b : Bool) → eqb (seen_at text s).kind 514 ≡ a → eqb (seen_at text s).kind 540 ≡ b → leb (type_after text s).value.kind 2 ≡ true
       by true b e g = rw e
       by false true e g = rw (e, g)
       by false false e g = rw (e, g)

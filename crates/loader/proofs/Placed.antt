@@ -9,6 +9,7 @@ use mathlib.Core.List.{List, [], ◌∷◌, ◌++◌}
 use lib.Dec.{eqb, leb, ltb}
 use lib.ListN.{length, get_or}
 use borrow.Author.Tests.{leb-true, leb-false, lt-leb, ltb-true, not-false}
+use Rattle.std.specs.Prelude.{None}
 use Rattle.syntax.specs.declared.register.Port.{Port}
 use Rattle.syntax.specs.declared.register.Register.{Register}
 use Rattle.tables.specs.Every.{every, some}
@@ -107,7 +108,7 @@ module _ (x y z i o j q : ℕ) (m l : Mask) where
   write-words false true = (refl, λ e. (refl, refl))
   write-words false false = (refl, λ e. absurd (false≢true e))
 
-module _ (text : List ℕ) (s : State) (r : Register) (none : (register_written text s r).number ≡ 0) where
+module _ (text : List ℕ) (s : State) (r : Register) (none : register_written text s r ≡ None) where
   abbrev ps : List ℕ
   ps = s.parameters
 
@@ -118,11 +119,11 @@ module _ (text : List ℕ) (s : State) (r : Register) (none : (register_written 
   table = appended 15 s.registers (register_entry text ps r)
 
   -- 8 is not broken as written
-  offset_of_lem : (p : Port) → (bad_offset text ps r.place p).number ≡ 0 → offset_in ps (index_of (port_found text ps p)) (natural_of p.worth) ≡ true
+  offset_of_lem : (p : Port) → bad_offset text ps r.place p ≡ None → offset_in ps (index_of (port_found text ps p)) (natural_of p.worth) ≡ true
   unfolding bad_offset
-  offset_of_lem p h = and_right (is_natural p.worth) _ (not-false _ (if_none _ 8 _ (λ e. omega arith) h))
+  offset_of_lem p h = and_right (is_natural p.worth) _ (not-false _ (if_none _ 8 _ h))
 
-  offsets : ((bad_offset text ps r.place r.first).number ≡ 0) × (r.two ≡ true → (bad_offset text ps r.place r.second).number ≡ 0)
+  offsets : (bad_offset text ps r.place r.first ≡ None) × (r.two ≡ true → bad_offset text ps r.place r.second ≡ None)
   unfolding register_written
   offsets =
       let a = (or-none _ _ none).1 in

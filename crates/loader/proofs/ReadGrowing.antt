@@ -7,10 +7,10 @@ use mathlib.Core.Bool.{Bool, true, false, cond}
 use mathlib.Core.List.{List}
 use lib.Dec.{eqb, leb}
 use lib.ListN.{length, replicate}
+use Rattle.std.specs.Prelude.{None, Ok, Err}
 use Rattle.token.specs.Kind.{kind_of}
 use Rattle.token.specs.Scan.{scan_at}
-use Rattle.syntax.specs.declared.reader.Step.{Step}
-use Rattle.syntax.specs.declared.reader.Step.TheVariants.{At, Refused}
+use Rattle.syntax.specs.Step.{Step}
 use Rattle.syntax.specs.declared.reader.Named.{Named}
 use Rattle.syntax.specs.declared.register.Register.{Register}
 use Rattle.syntax.specs.KindNames.{sign, end-kind, 'register', 'variable'}
@@ -38,7 +38,7 @@ pub record Reached (p : Progress State) : Type 0 where
   pub few-parameters : p.parameters ≤ 16
   pub few-registers : p.registers ≤ 64
   pub few-variables : p.variables ≤ 128
-  pub grown : p.made.fault.number ≡ 0 → Growing p.parameters p.registers p.variables p.made
+  pub grown : p.made.fault ≡ None → Growing p.parameters p.registers p.variables p.made
 
 -- parameters all come before the first register
 record Heading (p : Progress State) : Type 0 where
@@ -47,11 +47,11 @@ record Heading (p : Progress State) : Type 0 where
   no-variable : p.variables ≡ 0
 
 -- what an unstopped judging makes of growing tables
-grown-by : {p r v p' r' v' : ℕ} (s next : State) → (s.fault.number ≡ 0 → Growing p r v s)
-    → (Growing p r v s → next.fault.number ≡ 0 → Growing p' r' v' next) → (unless_stopped s next).fault.number ≡ 0 → Growing p' r' v' (unless_stopped s next)
+grown-by : {p r v p' r' v' : ℕ} (s next : State) → (s.fault ≡ None → Growing p r v s)
+    → (Growing p r v s → next.fault ≡ None → Growing p' r' v' next) → (unless_stopped s next).fault ≡ None → Growing p' r' v' (unless_stopped s next)
 grown-by {p' = p'} {r' = r'} {v' = v'} s next before turn h =
     let u = unstopped s next h in
-    let z : next.fault.number ≡ 0 = ap (λ (t : State). t.fault.number) (sym u.1) ∙ h in
+    let z : next.fault ≡ None = ap (λ (t : State). t.fault) (sym u.1) ∙ h in
     subst (λ (t : State). Growing p' r' v' t) (sym u.1) (turn (before u.0) z)
 
 module _ (text : List ℕ) where
@@ -141,8 +141,8 @@ module _ (text : List ℕ) where
 
 -- ---- something is declared, where the reading goes on
 abbrev pub went : Step → ℕ
-went (At next) = 1
-went (Refused number place) = 0
+went (Ok next) = 1
+went (Err stop) = 0
 
 abbrev pub Some : Progress State → Type 0
 Some p = went p.step ≤ p.registers + p.variables
@@ -150,25 +150,25 @@ Some p = went p.step ≤ p.registers + p.variables
 module _ (text : List ℕ) where
   fixed-went : (kind : ℕ) (s : Step) → went (fixed_after text kind s) ≤ went s
   unfolding fixed_after unexpected
-  fixed-went kind (Refused number place) = omega arith
-  fixed-went kind (At at) = go (eqb (kind_of (scan_at text at).token) kind) refl
+  fixed-went kind (Err stop) = omega arith
+  fixed-went kind (Ok at) = go (eqb (kind_of (scan_at text at).token) kind) refl
     where
-      go : (b : Bool) → eqb (kind_of (scan_at text at).token) kind ≡ b → went (fixed_after text kind (At at)) ≤ went (At at)
+      go : (b : Bool) → eqb (kind_of (scan_at text at).token) kind ≡ b → went (fixed_after text kind (Ok at)) ≤ went (Ok at)
       go true e = rw e (omega arith)
       go false e = rw e (omega arith)
 
   many-went : (place : ℕ) (s : Step) → went (too_many place s) ≡ 0
   unfolding too_many
-  many-went place (At next) = refl
-  many-went place (Refused number at) = refl
+  many-went place (Ok next) = refl
+  many-went place (Err stop) = refl
 
   -- one declaration more: one too many stops the reading, and so does one that is not whole
   some_next : (p : Progress State) (full : Bool) (kind : ℕ) (d : Declaration) (s : Step) → ((next : ℕ) → Some (counted (judge text) p d next))
       → Some (cond full (moved_to p (extra_after text kind p.step)) (taken (judge text) p d s))
   unfolding moved_to extra_after taken
   some_next p true kind d s one = omega (arith, many-went (place_at text p.step) (fixed_after text kind p.step))
-  some_next p false kind d (At next) one = one next
-  some_next p false kind d (Refused number place) one = omega arith
+  some_next p false kind d (Ok next) one = one next
+  some_next p false kind d (Err stop) one = omega arith
 
   some_declaration : (p : Progress State) → Some (declaration_with (judge text) text p)
   unfolding declaration_with register_with variable_with counted

@@ -7,8 +7,8 @@ use mathlib.Core.List.{List}
 use lib.Dec.{eqb, leb}
 use lib.ListN.{length, replicate}
 use borrow.Author.Tests.{leb-false}
-use Rattle.syntax.specs.declared.reader.Step.{Step}
-use Rattle.syntax.specs.declared.reader.Step.TheVariants.{At, Refused}
+use Rattle.std.specs.Prelude.{Ok, Err}
+use Rattle.syntax.specs.Step.{Step}
 use Rattle.syntax.specs.declared.reader.Named.{Named}
 use Rattle.syntax.specs.declared.register.Register.{Register}
 use Rattle.syntax.specs.KindNames.{sign, name-kind, 'register', 'variable'}
@@ -25,8 +25,8 @@ use Rattle.loader.proofs.PieceCounts.{WellRead, well-read}
 module _ {X : Type 0} (judge : X → Declaration → X) (text : List ℕ) (I : Progress X → Type 0) (moves : (p : Progress X) (s : Step) → I p → I (moved_to p s)) where
   taken-keeps : (p : Progress X) (d : Declaration) (s : Step) → ((next : ℕ) → I (counted judge p d next)) → I p → I (taken judge p d s)
   unfolding taken
-  taken-keeps p d (At next) f i = f next
-  taken-keeps p d (Refused number place) f i = moves p (Refused number place) i
+  taken-keeps p d (Ok next) f i = f next
+  taken-keeps p d (Err stop) f i = moves p (Err stop) i
 
   -- ---- the first half of a text
   module _ (device : (p : Progress X) (d : Named) (next : ℕ) → I p → I (counted judge p (a_device d) next))

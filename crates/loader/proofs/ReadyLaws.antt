@@ -10,8 +10,8 @@ use lib.Dec.{leb}
 use lib.ListN.{length, get_or, set, length-set, get_or-eq_default}
 use lib.Seq.{get_or-set_same}
 use borrow.Author.Tests.{leb-false, leb-true}
-use Rattle.syntax.specs.declared.reader.Step.{Step}
-use Rattle.syntax.specs.declared.reader.Step.TheVariants.{At, Refused}
+use Rattle.std.specs.Prelude.{None, Ok, Err}
+use Rattle.syntax.specs.Step.{Step}
 use Rattle.syntax.specs.declared.register.Register.{Register}
 use Rattle.syntax.specs.Reader.{fixed_after, extra_after}
 use Rattle.syntax.specs.Register.{register_after}
@@ -21,7 +21,7 @@ use Rattle.rules.specs.Fault.{is_fault}
 use Rattle.rules.specs.Words.{word_of, written, appended}
 use Rattle.rules.specs.State.{State, unless_stopped, unless_broken, stopped, with_registers}
 use Rattle.rules.specs.Register.{register_written, register_entry, added_register, judge_register}
-use Rattle.rules.proofs.FaultLaws.{no_number}
+use Rattle.rules.proofs.FaultLaws.{is-none}
 use Rattle.loader.specs.Judge.{judge}
 use Rattle.loader.specs.Ready.{Ready}
 
@@ -43,7 +43,7 @@ count-after stride t words = go (leb 1 (length whole)) refl
 pub record Kept (s t : State) : Type 0 where
   pub registers : count_of t.registers ≤ count_of s.registers + 1
   pub variables : t.variables ≡ s.variables
-  pub fault : t.fault.number ≡ 0 → s.fault.number ≡ 0
+  pub fault : t.fault ≡ None → s.fault ≡ None
 
 register-kept : (text : List ℕ) (s : State) (r : Register) → Kept s (unless_stopped s (judge_register text s r))
 unfolding unless_stopped judge_register unless_broken added_register with_registers stopped
@@ -51,10 +51,10 @@ register-kept text s r = go (is_fault s.fault) (is_fault (register_written text 
   where
     go : (a b : Bool) → is_fault s.fault ≡ a → is_fault (register_written text s r) ≡ b → Kept s (unless_stopped s (judge_register text s r))
     go true b e g = rw e (record { registers = omega arith; variables = refl; fault = λ z. z })
-    go false true e g = rw (e, g) (record { registers = omega arith; variables = refl; fault = λ z. no_number s.fault e })
+    go false true e g = rw (e, g) (record { registers = omega arith; variables = refl; fault = λ z. is-none s.fault e })
     go false false e g =
         rw (e, g)
-        (record { registers = count-after 15 s.registers (register_entry text s.parameters r); variables = refl; fault = λ z. no_number s.fault e })
+        (record { registers = count-after 15 s.registers (register_entry text s.parameters r); variables = refl; fault = λ z. is-none s.fault e })
 
 module _ (text : List ℕ) (p : Progress State) {reads writes : List ℕ} (ready : Ready p reads writes) where
   pub ready_moved : (s : Step) → Ready (moved_to p s) reads writes
@@ -91,5 +91,5 @@ module _ (text : List ℕ) (p : Progress State) {reads writes : List ℕ} (ready
       go : (b : Bool) → leb 64 p.registers ≡ b → (s : Step) → fixed_after text 315 (register_after text p.step).step ≡ s
           → Ready (register_with (judge text) text p) reads writes
       go true e s g = rw e (ready_moved (extra_after text 529 p.step))
-      go false e (Refused number place) g = rw (e, g) (ready_moved (Refused number place))
-      go false e (At next) g = rw (e, g) (ready-counted (register_after text p.step) next e)
+      go false e (Err stop) g = rw (e, g) (ready_moved (Err stop))
+      go false e (Ok next) g = rw (e, g) (ready-counted (register_after text p.step) next e)

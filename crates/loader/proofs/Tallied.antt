@@ -4,8 +4,8 @@ use Prim.Native.Nat.{ℕ, ◌+◌, ◌≤◌}
 use native.Mathlib.Omega.{arith}
 use mathlib.Core.Path.{◌≡◌, refl}
 use mathlib.Core.List.{List, [], ◌∷◌, ◌++◌}
-use Rattle.syntax.specs.declared.reader.Step.{Step}
-use Rattle.syntax.specs.declared.reader.Step.TheVariants.{At}
+use Rattle.std.specs.Prelude.{Ok}
+use Rattle.syntax.specs.Step.{Step}
 use Rattle.syntax.specs.Text.{Declaration, a_device, a_parameter, a_register, a_variable, Progress, moved_to, counted, listed, reading_with, reading}
 use Rattle.rules.proofs.ParameterShape.{Sets}
 use Rattle.loader.specs.Claim.{tally, one_parameter, one_register, one_variable}
@@ -96,7 +96,7 @@ same : (n : ℕ) → n ≡ n + 0
 same n = omega arith
 
 abbrev start : Progress (List Declaration)
-start = record { parameters = 0; registers = 0; variables = 0; made = []; step = At 0 }
+start = record { parameters = 0; registers = 0; variables = 0; made = []; step = Ok 0 }
 
 tallied-start : Tallied start
 unfolding EachEntire tally

@@ -8,7 +8,8 @@ use mathlib.Core.Logic.{◌⊎◌, ⊎_elim, inl, inr}
 use mathlib.Core.List.{List}
 use lib.Dec.{eqb, leb}
 use lib.ListN.{length, replicate}
-use borrow.Author.Tests.{eqb-true, eqb-false, leb-false}
+use borrow.Author.Tests.{eqb-true, leb-false}
+use Rattle.std.specs.Prelude.{None}
 use Rattle.syntax.specs.declared.variable.Variable.{Variable}
 use Rattle.syntax.specs.Variable.{VariableRead}
 use Rattle.syntax.specs.Text.{Progress, a_variable, counted}
@@ -17,11 +18,12 @@ use Rattle.tables.specs.Words.{count_of, variable_at}
 use Rattle.tables.specs.Rules.{variable_part_shape, variable_shape}
 use Rattle.tables.proofs.Laws.{every_more, every-same}
 use Rattle.tables.proofs.SameLaws.{variable_shape-same}
-use Rattle.rules.specs.Fault.{is_fault, fault_if, or_else}
+use Rattle.rules.specs.Fault.{is_fault}
+use Rattle.rules.proofs.FaultLaws.{if_none, or-none}
 use Rattle.rules.specs.declared.declared.Judging.{Judging}
 use Rattle.rules.specs.State.{State, state_of, unless_stopped, unless_broken, stopped, with_variables}
 use Rattle.rules.specs.Lists.{paired, all_have, list_for, part_words}
-use Rattle.rules.specs.Variable.{triggers, first_pieces, second_pieces, list_of, early_fault, name_fault, variables_with, added_variable, judge_variable, MappedUnless}
+use Rattle.rules.specs.Variable.{triggers, first_pieces, second_pieces, list_of, early_fault, variables_with, added_variable, judge_variable, MappedUnless}
 use Rattle.loader.specs.Judge.{judge}
 use Rattle.loader.specs.Ready.{Ready, Judgeable}
 use Rattle.loader.proofs.PieceCounts.{WellRead}
@@ -66,23 +68,17 @@ module _ (text : List ℕ) (s : State) (it : VariableRead) where
   after = unless_stopped s (judge_variable text s it)
 
   -- 11 by the pairing, where it is not broken
-  pub early-eleven : (early_fault text s it).number ≡ 0 → (eqb (list_of text s it 0) 0 && eqb (list_of text s it 1) 0) ≡ false
-  unfolding early_fault or_else fault_if
-  early-eleven h = go (eqb (list_of text s it 0) 0 && eqb (list_of text s it 1) 0) refl (eqb (name_fault text s it).number 0) refl
-    where
-      go : (b : Bool) → (eqb (list_of text s it 0) 0 && eqb (list_of text s it 1) 0) ≡ b → (c : Bool) → eqb (name_fault text s it).number 0 ≡ c
-          → (eqb (list_of text s it 0) 0 && eqb (list_of text s it 1) 0) ≡ false
-      go false e c g = e
-      go true e true g = let z : ◌≡◌ {A = ℕ} 11 0 = sym (rw (g, e)) ∙ h in absurd (omega arith)
-      go true e false g = absurd (eqb-false (name_fault text s it).number 0 g (sym (rw g) ∙ h))
+  pub early-eleven : early_fault text s it ≡ None → (eqb (list_of text s it 0) 0 && eqb (list_of text s it 1) 0) ≡ false
+  unfolding early_fault
+  early-eleven h = if_none _ 11 _ (or-none _ _ h).1
 
   -- a variable that breaks no rule was judged, and entered
   pub record Entered : Type 0 where
-    pub before : s.fault.number ≡ 0
+    pub before : s.fault ≡ None
     pub table : after.variables ≡ variables_with text s it
     pub given : (eqb (list_of text s it 0) 0 && eqb (list_of text s it 1) 0) ≡ false
 
-  pub entered-is : after.fault.number ≡ 0 → Entered
+  pub entered-is : after.fault ≡ None → Entered
   unfolding judge_variable added_variable with_variables
   entered-is h =
       let kept = judged-kept s (early_fault text s it) (added_variable text s it) h in
@@ -171,7 +167,7 @@ module _ (text : List ℕ) (s : State) (it : VariableRead) where
 pub ready-variable : (text : List ℕ) (p : Progress State) (it : VariableRead) (next : ℕ)
     {reads writes reads' writes' : List ℕ} → Ready p reads writes
     → leb 128 p.variables ≡ false → WellRead it.variable
-    → MappedUnless (after text p.made it).fault.number (after text p.made it).variables (count_of p.made.variables + 1) reads' writes'
+    → MappedUnless (after text p.made it).fault (after text p.made it).variables (count_of p.made.variables + 1) reads' writes'
     → Ready (counted (judge text) p (a_variable it) next) reads' writes'
 unfolding counted judge
 ready-variable text p it next {reads' = reads'} {writes' = writes'} ready room w mapped =
@@ -201,7 +197,7 @@ ready-variable text p it next {reads' = reads'} {writes' = writes'} ready room w
 
 -- what judging the variable asks for, and what its answer says of the maps
 module _ (p : Progress State) {reads writes : List ℕ} (ready : Ready p reads writes) where
-  pub judged-asks : (d : Variable) → leb 128 p.variables ≡ false → WellRead d → Judgeable p.made.fault.number p.made.registers p.made.variables d reads writes
+  pub judged-asks : (d : Variable) → leb 128 p.variables ≡ false → WellRead d → Judgeable p.made.fault p.made.registers p.made.variables d reads writes
   judged-asks d room w =
       record {
         registers-few = omega (arith, ready.registers-counted, ready.registers-few);
@@ -213,7 +209,7 @@ module _ (p : Progress State) {reads writes : List ℕ} (ready : Ready p reads w
       }
 
 pub mapped-judged : (j : Judging) (ps rs vs : List ℕ) {s : State} (n : ℕ) {reads writes : List ℕ} → state_of j ps rs vs ≡ s
-    → MappedUnless j.fault.number vs n reads writes → MappedUnless s.fault.number s.variables n reads writes
+    → MappedUnless j.fault vs n reads writes → MappedUnless s.fault s.variables n reads writes
 unfolding state_of
 mapped-judged j ps rs vs n {reads} {writes} e m =
-    subst (λ (t : State). MappedUnless t.fault.number t.variables n reads writes) e m
+    subst (λ (t : State). MappedUnless t.fault t.variables n reads writes) e m

@@ -1,10 +1,11 @@
 -- What loading a text into lent tables answers, in the words of document 01: the published grammar, the sizes, and the
 -- rules declaration by declaration.
 -- `proofs/Exactly.antt` shows that `load_of` answers this and nothing else.
-use Rattle.std.specs.Prelude.{ℕ, ◌+◌, ◌≤◌, ◌<◌, ◌≡◌, ◌⊎◌, Bool, true, false, ◌&&◌, get_or}
+use Rattle.std.specs.Prelude.{ℕ, ◌+◌, ◌≤◌, ◌<◌, ◌≡◌, ◌⊎◌, Option, Some, None, Ok, Err, Bool, true, false, ◌&&◌, get_or}
 use mathlib.Core.List.{List, [], ◌∷◌, ◌++◌, foldl}
 use Rattle.std.proofs.Math.Option.{none}
-use Rattle.syntax.specs.declared.reader.Step.TheVariants.{Refused as Stopped}
+use Rattle.token.specs.declared.Reason.{Reason}
+use Rattle.token.specs.Kind.{number_of}
 use Rattle.syntax.specs.Sizes.{passed_at}
 use Rattle.syntax.specs.Claim.{InLanguage, Right}
 use Rattle.syntax.specs.Text.{Declaration, a_device, a_parameter, a_register, a_variable, reading}
@@ -13,8 +14,7 @@ use Rattle.tables.specs.Rules.{covered}
 use Rattle.tables.specs.View.{Tables}
 use Rattle.rules.specs.declared.fault.Fault.{Fault}
 use Rattle.rules.specs.State.{State}
-use Rattle.loader.specs.declared.whole.Verdict.{Verdict}
-use Rattle.loader.specs.declared.whole.Verdict.TheVariants.{Accepted, Refused}
+use Rattle.loader.specs.Verdict.{Verdict, refused}
 use Rattle.loader.specs.Judge.{judge}
 use Rattle.loader.specs.Load.{beginning, laid_over, is_short, is_long}
 
@@ -59,13 +59,13 @@ Reads text = InLanguage text × (passed_at text ≡ none)
 unfoldable pub standing : List ℕ → List Declaration → State
 standing text before = foldl (judge text) beginning before
 
--- the rule that a declaration breaks, judged after those before it; its number is 0 where it keeps all of them
-unfoldable pub broken_by : List ℕ → List Declaration → Declaration → Fault
+-- the rule that a declaration breaks, judged after those before it, or none where it keeps all of them
+unfoldable pub broken_by : List ℕ → List Declaration → Declaration → Option Fault
 broken_by text before d = (judge text (standing text before) d).fault
 
 -- every one of these declarations keeps the rules
 unfoldable pub AllKeep : List ℕ → List Declaration → Type 0
-AllKeep text ds = (before after : List Declaration) (d : Declaration) → ds ≡ before ++ d ∷ after → (broken_by text before d).number ≡ 0
+AllKeep text ds = (before after : List Declaration) (d : Declaration) → ds ≡ before ++ d ∷ after → broken_by text before d ≡ None
 
 -- the first declaration that breaks a rule of 6 to 15, and where
 pub record FirstBroken (text : List ℕ) (ds : List Declaration) (number place : ℕ) : Type 0 where
@@ -76,8 +76,7 @@ pub record FirstBroken (text : List ℕ) (ds : List Declaration) (number place :
   pub before-keep : AllKeep text before
   pub least : 6 ≤ number
   pub most : number ≤ 15
-  pub number_is : number ≡ (broken_by text before it).number
-  pub place_is : place ≡ (broken_by text before it).place
+  pub breaks : broken_by text before it ≡ Some (record { number = number; place = place })
 
 -- ── 16 ──
 
@@ -111,7 +110,9 @@ pub record Accepts (text : List ℕ) (parameters registers variables : ℕ) : Ty
 pub record Unread (text : List ℕ) (number place : ℕ) : Type 0 where
   pub least : 3 ≤ number
   pub most : number ≤ 5
-  pub stops : Right text (Stopped number place)
+  pub why : Reason
+  pub number_is : number ≡ number_of why
+  pub stops : Right text (Err (record { why = why; place = place }))
 
 -- 6 to 15: the first declaration that breaks a rule names it
 abbrev pub Breaks : List ℕ → ℕ → ℕ → Type 0
@@ -126,17 +127,17 @@ pub record Misses (text : List ℕ) (number place : ℕ) : Type 0 where
 
 -- 3 to 16
 unfoldable pub RightRead : List ℕ → Verdict → Type 0
-RightRead text (Accepted p r v) = Accepts text p r v
-RightRead text (Refused number place) = Unread text number place ⊎ (Breaks text number place ⊎ Misses text number place)
+RightRead text (Ok counts) = Accepts text counts.parameters counts.registers counts.variables
+RightRead text (Err r) = Unread text r.number r.place ⊎ (Breaks text r.number r.place ⊎ Misses text r.number r.place)
 
 -- THE CLAIM. 1 and 2 come first, by their tests.
 unfoldable pub RightVerdict : List ℕ → Tables → Verdict → Type 0
 RightVerdict text t v =
-    ((is_short t ≡ true) × (v ≡ Refused 1 0))
-    ⊎ (((is_short t ≡ false) × (is_long text ≡ true) × (v ≡ Refused 2 0)) ⊎ ((is_short t ≡ false) × (is_long text ≡ false) × RightRead text v))
+    ((is_short t ≡ true) × (v ≡ refused 1 0))
+    ⊎ (((is_short t ≡ false) × (is_long text ≡ true) × (v ≡ refused 2 0)) ⊎ ((is_short t ≡ false) × (is_long text ≡ false) × RightRead text v))
 
 -- WHAT IS LEFT. 1 and 2 touch nothing; 3 to 16 leave zeros over the stated sizes; accepting leaves what stands after
 -- all declarations (specs/Describes.antt says what that is). What lies past the stated sizes stays.
 unfoldable pub Leaves : List ℕ → Tables → Verdict → Tables → Type 0
-Leaves text t (Accepted p r v) left = left ≡ laid_over (standing text (declared text)) t
-Leaves text t (Refused number place) left = ((number ≤ 2) × (left ≡ t)) ⊎ ((3 ≤ number) × (left ≡ laid_over beginning t))
+Leaves text t (Ok counts) left = left ≡ laid_over (standing text (declared text)) t
+Leaves text t (Err r) left = ((r.number ≤ 2) × (left ≡ t)) ⊎ ((3 ≤ r.number) × (left ≡ laid_over beginning t))

@@ -1,8 +1,7 @@
 -- Judging what a text declares, declaration by declaration: the device, each parameter, each register and variable, in
 -- the text's order.
-use Rattle.std.specs.Prelude.{ℕ, ◌+◌, List}
-use Rattle.syntax.specs.declared.reader.Step.{Step}
-use Rattle.syntax.specs.declared.reader.Step.TheVariants.{At}
+use Rattle.std.specs.Prelude.{ℕ, ◌+◌, Ok, List}
+use Rattle.syntax.specs.Step.{Step}
 use Rattle.syntax.specs.Text.{Declaration, a_device, a_parameter, a_register, a_variable, Progress}
 use Rattle.loader.specs.declared.heading.Loading.{Loading}
 use Rattle.rules.specs.declared.declared.Judging.{Judging}
@@ -27,11 +26,12 @@ progress_of l ps rs vs =
 
 -- nothing is read yet
 unfoldable pub at_start : Loading
-at_start = record { parameters = 0; registers = 0; variables = 0; judging = record { place = 0; extent = 0; fault = no_fault }; step = At 0 }
+at_start = record { parameters = 0; registers = 0; variables = 0; judging = record { place = 0; extent = 0; fault = no_fault }; step = Ok 0 }
 
 -- one variable more, which ends at a step
-unfoldable pub variable_more : Loading → Judging → Step → Loading
-variable_more l j s = record { parameters = l.parameters; registers = l.registers; variables = l.variables + 1; judging = j; step = s }
+abbrev pub variable_more : Loading → Judging → Step → Loading
+variable_more l j s = record l { variables = l.variables + 1; judging = j; step = s }
 
-unfoldable pub moved_by : Loading → Step → Loading
-moved_by l s = record { parameters = l.parameters; registers = l.registers; variables = l.variables; judging = l.judging; step = s }
+-- the same, at another step
+abbrev pub moved_by : Loading → Step → Loading
+moved_by l s = record l { step = s }

@@ -2,6 +2,7 @@
 pub mod Judge
 pub mod Known
 pub mod Ready
+pub mod Verdict
 pub mod Load
 -- What loading comes to, in the words of document 01, and what the tables then hold.
 pub mod Claim

@@ -1,18 +1,17 @@
 -- Loading a text into lent tables: document 01, "Consistency rules and the desk's refusals".
-use Rattle.std.specs.Prelude.{ℕ, ◌≡◌, Bool, true, false, ◌&&◌, ◌||◌, not, cond, ltb, length, get_or, drop, replicate}
+use Rattle.std.specs.Prelude.{ℕ, ◌≡◌, Option, Some, None, Ok, Err, Bool, true, false, ◌&&◌, ◌||◌, not, cond, ltb, length, get_or, drop, replicate}
 use mathlib.Core.List.{List, [], ◌∷◌, foldl, ◌++◌}
-use Rattle.std.proofs.Math.Option.{Option, none, some}
-use Rattle.syntax.specs.declared.reader.Step.{Step}
-use Rattle.syntax.specs.declared.reader.Step.TheVariants.{At, Refused as Stopped}
+use Rattle.std.proofs.Math.Option as number
+use Rattle.token.specs.Kind.{number_of}
+use Rattle.syntax.specs.Step.{Step}
 use Rattle.syntax.specs.Text.{Progress, reading, remade}
 use Rattle.tables.specs.Every.{first_of}
 use Rattle.tables.specs.Tables.{count_of, register_at}
 use Rattle.tables.specs.Rules.{covered}
 use Rattle.tables.specs.View.{Tables}
-use Rattle.loader.specs.declared.whole.Verdict.{Verdict}
-use Rattle.loader.specs.declared.whole.Verdict.TheVariants.{Accepted, Refused}
+use Rattle.loader.specs.Verdict.{Verdict, accepted, refused}
 use Rattle.rules.specs.declared.fault.Fault.{Fault}
-use Rattle.rules.specs.Fault.{no_fault, is_fault}
+use Rattle.rules.specs.Fault.{no_fault}
 use Rattle.rules.specs.State.{State}
 use Rattle.loader.specs.Judge.{judge}
 
@@ -59,23 +58,23 @@ unfoldable pub first_uncovered : List ℕ → List ℕ → ℕ
 first_uncovered rs vs = first_of (count_of rs) (λ i. not (covered rs vs (count_of vs) 0 i && covered rs vs (count_of vs) 1 i))
 
 -- 6 to 15, then 16 at that register's name; or the counts
-unfoldable pub judged_as : Fault → ℕ → List ℕ → List ℕ → List ℕ → Verdict
-judged_as fault uncovered ps rs vs =
-    cond (is_fault fault) (Refused fault.number fault.place)
-    (cond (ltb uncovered (count_of rs)) (Refused 16 (get_or rs (register_at uncovered) 0)) (Accepted (count_of ps) (count_of rs) (count_of vs)))
+unfoldable pub judged_as : Option Fault → ℕ → List ℕ → List ℕ → List ℕ → Verdict
+judged_as (Some fault) uncovered ps rs vs = refused fault.number fault.place
+judged_as None uncovered ps rs vs =
+    cond (ltb uncovered (count_of rs)) (refused 16 (get_or rs (register_at uncovered) 0)) (accepted (count_of ps) (count_of rs) (count_of vs))
 
 -- 3 to 5 come first: only when the whole text reads, the rules
 unfoldable pub once_read : Step → Verdict → Verdict
-once_read (Stopped number place) verdict = Refused number place
-once_read (At next) verdict = verdict
+once_read (Err refusal) verdict = refused (number_of refusal.why) refusal.place
+once_read (Ok next) verdict = verdict
 
 unfoldable pub verdict_of : Progress State → Verdict
 verdict_of p =
     once_read p.step (judged_as p.made.fault (first_uncovered p.made.registers p.made.variables) p.made.parameters p.made.registers p.made.variables)
 
 unfoldable pub is_accepted : Verdict → Bool
-is_accepted (Accepted parameters registers variables) = true
-is_accepted (Refused number place) = false
+is_accepted (Ok counts) = true
+is_accepted (Err r) = false
 
 -- what the tables then hold over their stated sizes: accepting leaves what was judged, 3 to 16 leave zeros
 unfoldable pub left_by : Progress State → State
@@ -93,15 +92,15 @@ laid_over s t =
 -- LOADING. 1 and 2 touch nothing
 unfoldable pub load_of : List ℕ → Tables → Loaded
 load_of text t =
-    cond (is_short t) (record { verdict = Refused 1 0; tables = t })
-    (cond (is_long text) (record { verdict = Refused 2 0; tables = t })
+    cond (is_short t) (record { verdict = refused 1 0; tables = t })
+    (cond (is_long text) (record { verdict = refused 2 0; tables = t })
     (record { verdict = verdict_of (judged text); tables = laid_over (left_by (judged text)) t }))
 
 -- an answer in the words of document 01: the number and the place of a refusal, or the counts
-abbrev pub refusal_of : Verdict → Option ℕ
-refusal_of (Accepted parameters registers variables) = none
-refusal_of (Refused number place) = some number
+abbrev pub refusal_of : Verdict → number.Option ℕ
+refusal_of (Ok counts) = number.none
+refusal_of (Err r) = number.some r.number
 
 abbrev pub values_of : Verdict → List ℕ
-values_of (Accepted parameters registers variables) = parameters ∷ registers ∷ variables ∷ []
-values_of (Refused number place) = number ∷ place ∷ []
+values_of (Ok counts) = counts.parameters ∷ counts.registers ∷ counts.variables ∷ []
+values_of (Err r) = r.number ∷ r.place ∷ []

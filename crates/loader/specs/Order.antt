@@ -1,7 +1,8 @@
 -- "Declaration by declaration, lowest number first": the rules of a parameter, a register and a variable in their
 -- order, each with its test.
 -- `proofs/Lowest.antt` shows that judging names the first that is broken.
-use Rattle.std.specs.Prelude.{ℕ, Bool, ◌&&◌, ◌||◌, not, cond, List, [], ◌∷◌, eqb}
+use Rattle.std.specs.Prelude.{ℕ, ◌≡◌, Bool, ◌&&◌, ◌||◌, not, cond, List, [], ◌∷◌, eqb, Option, Some, None}
+use Rattle.rules.specs.declared.fault.Fault.{Fault}
 use Rattle.syntax.specs.declared.register.Port.{Port}
 use Rattle.syntax.specs.declared.register.Register.{Register}
 use Rattle.syntax.specs.Parameter.{ParameterRead}
@@ -30,6 +31,11 @@ rule broken number = record { broken = broken; number = number }
 unfoldable pub first_of_rules : List Rule → ℕ
 first_of_rules [] = 0
 first_of_rules (r ∷ rest) = cond r.broken r.number (first_of_rules rest)
+
+-- what judging names: the rule of this number, or none exactly where it is 0
+abbrev pub NamesRule : Option Fault → ℕ → Type 0
+NamesRule None number = number ≡ 0
+NamesRule (Some fault) number = (fault.number ≡ number) × (number ≡ 0 → ⊥)
 
 module _ (text : List ℕ) (s : State) where
   -- a parameter; `ps` are the parameters with its entry, number `i`

@@ -6,28 +6,19 @@ ghost use Rattle.tables.specs.Tables.{count_of};
 ghost use Rattle.rules.specs.State.{state_of, unless_stopped};
 ghost use Rattle.rules.specs.Register.{judge_register};
 ghost use Rattle.rules.specs.Variable.{read_of, judge_variable, MappedUnless};
-ghost use Rattle.loader.specs.Judge.{judge, progress_of, moved_by, variable_more};
+ghost use Rattle.loader.specs.Judge.{judge, progress_of, moved_by};
 ghost use Rattle.loader.specs.Known.{Known};
 ghost use Rattle.loader.specs.Ready.{Noted, Judgeable};
 
-use crate::heading::{Loading, moved};
+use crate::heading::Loading;
 use crate::known::{declared_at, mark_entry};
+use rules::Judging;
 use rules::register::judge_register;
 use rules::variable::judge_variable;
-use rules::{Judging, fault};
+use syntax::kinds::{CLOSE_BRACE, OPEN_BRACE, REGISTER, SEMICOLON, VARIABLE};
 use syntax::{Register, Seen, Step, Variable};
 use tables::marks::unmarked;
 use tables::words::word;
-
-const REGISTER: u16 = 529;
-
-const VARIABLE: u16 = 537;
-
-const SEMICOLON: u16 = 315;
-
-const OPEN_BRACE: u16 = 379;
-
-const CLOSE_BRACE: u16 = 381;
 
 // A name without a mark is not searched for. The entry's name gets its mark.
 fn register_judged(
@@ -72,25 +63,22 @@ fn register_next(
     ensures read { progress_of result parameters.now registers.new variables.now ≡ register_with (judge text.now) text.now (progress_of loading parameters.now registers.old variables.now) }
     ensures names { Known text.now (state_of result.judging parameters.now registers.new variables.now) known.new }
 {
-    let from = loading.step;
     if 64 <= loading.registers {
-        let extra = syntax::extra_after(text, REGISTER, from);
-        return moved(loading, extra);
+        let step = syntax::extra_after(text, REGISTER, loading.step);
+        return Loading { step, ..loading };
     }
     let one = syntax::register_behind(text, word);
-    let after = one.step;
-    let end = syntax::fixed_after(text, SEMICOLON, after);
-    let Step::At(_) = end else {
-        return moved(loading, end);
-    };
+    let step = syntax::fixed_after(text, SEMICOLON, one.step);
+    if step.is_err() {
+        return Loading { step, ..loading };
+    }
     let so_far = loading.judging;
     let judging = register_judged(text, so_far, parameters, registers, variables, one, known);
     Loading {
-        parameters: loading.parameters,
         registers: loading.registers + 1,
-        variables: loading.variables,
         judging,
-        step: end,
+        step,
+        ..loading
     }
 }
 
@@ -108,13 +96,13 @@ fn variable_judged(
     writes: &mut [u8],
     known: &mut [u8],
 ) -> Judging
-    requires judgeable { Judgeable judging.fault.number registers.now variables.old variable reads.old writes.old }
+    requires judgeable { Judgeable judging.fault registers.now variables.old variable reads.old writes.old }
     requires known { Known text.now (state_of judging parameters.now registers.now variables.old) known.old }
     ensures judged { state_of result parameters.now registers.now variables.new ≡ unless_stopped (state_of judging parameters.now registers.now variables.old) (judge_variable text.now (state_of judging parameters.now registers.now variables.old) (read_of variable first.now second.now)) }
-    ensures mapped { MappedUnless result.fault.number variables.new (count_of variables.old + 1) reads.new writes.new }
+    ensures mapped { MappedUnless result.fault variables.new (count_of variables.old + 1) reads.new writes.new }
     ensures names { Known text.now (state_of result parameters.now registers.now variables.new) known.new }
 {
-    if fault::is_fault(judging.fault) {
+    if judging.fault.is_some() {
         return judging;
     }
     let name = declared_at(text, variable.place, variable.length);
@@ -134,20 +122,6 @@ fn variable_judged(
     );
     mark_entry(text, variables, 59 * count + 1, name, known);
     judged
-}
-
-// One variable more, which ends at a step.
-fn with_variable(loading: Loading, judging: Judging, step: Step) -> Loading
-    requires { loading.variables < 2 ^ 32 }
-    ensures { result ≡ variable_more loading judging step }
-{
-    Loading {
-        parameters: loading.parameters,
-        registers: loading.registers,
-        variables: loading.variables + 1,
-        judging,
-        step,
-    }
 }
 
 // A variable, where one more may come.
@@ -171,25 +145,20 @@ fn variable_due(
     let mut first = [0usize; 40];
     let mut second = [0usize; 40];
     let one = syntax::variable_behind(text, word, &mut first, &mut second);
-    let after = one.step;
-    let end = syntax::fixed_after(text, SEMICOLON, after);
-    let Step::At(_) = end else {
-        return moved(loading, end);
-    };
+    let step = syntax::fixed_after(text, SEMICOLON, one.step);
+    if step.is_err() {
+        return Loading { step, ..loading };
+    }
+    let so_far = loading.judging;
     let judging = variable_judged(
-        text,
-        loading.judging,
-        parameters,
-        registers,
-        variables,
-        one,
-        &first,
-        &second,
-        reads,
-        writes,
-        known,
+        text, so_far, parameters, registers, variables, one, &first, &second, reads, writes, known,
     );
-    with_variable(loading, judging, end)
+    Loading {
+        variables: loading.variables + 1,
+        judging,
+        step,
+        ..loading
+    }
 }
 
 fn variable_next(
@@ -208,9 +177,9 @@ fn variable_next(
     ensures read { progress_of result parameters.now registers.now variables.new ≡ variable_with (judge text.now) text.now (progress_of loading parameters.now registers.now variables.old) }
     ensures noted { Noted text.now (progress_of result parameters.now registers.now variables.new) reads.new writes.new known.new }
 {
-    let from = loading.step;
     if 128 <= loading.variables {
-        return moved(loading, syntax::extra_after(text, VARIABLE, from));
+        let step = syntax::extra_after(text, VARIABLE, loading.step);
+        return Loading { step, ..loading };
     }
     variable_due(
         text, loading, word, parameters, registers, variables, reads, writes, known,
@@ -238,8 +207,7 @@ fn declaration_next(
         let word = seen.past;
         return register_next(text, loading, word, parameters, registers, variables, known);
     }
-    let from = loading.step;
-    let word = syntax::seen_after(text, VARIABLE, seen, from);
+    let word = syntax::seen_after(text, VARIABLE, seen, loading.step);
     variable_next(
         text, loading, word, parameters, registers, variables, reads, writes, known,
     )
@@ -261,17 +229,14 @@ fn more_declarations(
     ensures noted { Noted text.now (progress_of result parameters.now registers.new variables.new) reads.new writes.new known.new }
 {
     let mut all = loading;
-    let mut room = text.len();
-    while 0 < room {
-        let here = all.step;
-        let seen = syntax::look(text, here);
+    for _ in 0..text.len() {
+        let seen = syntax::look(text, all.step);
         if !syntax::declares(seen.kind) {
-            return all;
+            break;
         }
         all = declaration_next(
             text, all, seen, parameters, registers, variables, reads, writes, known,
         );
-        room -= 1;
     }
     all
 }
@@ -280,8 +245,8 @@ fn more_declarations(
 fn past(text: &[u8], loading: Loading, kind: u16) -> Loading
     ensures { result ≡ moved_by loading (fixed_after text.now kind loading.step) }
 {
-    let from = loading.step;
-    moved(loading, syntax::fixed_after(text, kind, from))
+    let step = syntax::fixed_after(text, kind, loading.step);
+    Loading { step, ..loading }
 }
 
 pub fn declarations_of(
@@ -299,8 +264,7 @@ pub fn declarations_of(
     ensures noted { Noted text.now (progress_of result parameters.now registers.new variables.new) reads.new writes.new known.new }
 {
     let inside = past(text, loading, OPEN_BRACE);
-    let here = inside.step;
-    let seen = syntax::look(text, here);
+    let seen = syntax::look(text, inside.step);
     let one = declaration_next(
         text, inside, seen, parameters, registers, variables, reads, writes, known,
     );

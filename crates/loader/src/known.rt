@@ -23,10 +23,8 @@ fn mark_of(name: &[u8]) -> usize
     ensures { result ≡ mark_of name.now }
 {
     let mut number: usize = 0;
-    let mut k = 0;
-    while k < name.len() {
-        number = (37 * number + name[k] as usize) % 2048;
-        k += 1;
+    for byte in name {
+        number = (37 * number + *byte as usize) % 2048;
     }
     number
 }
@@ -56,7 +54,7 @@ pub fn mark_entry(text: &[u8], table: &[u32], at: usize, last: Declared, known: 
 {
     let start = word(table, at);
     let length = word(table, at + 1);
-    if (start == last.place) & (length == last.extent) {
+    if start == last.place && length == last.extent {
         mark(known, last.number);
         return;
     }
@@ -69,13 +67,10 @@ pub fn mark_heading(text: &[u8], judging: Judging, parameters: &[u32], known: &m
     ensures { (rs vs : List ℕ) → count_of rs ≡ 0 → count_of vs ≡ 0 → Known text.now (state_of judging parameters.now rs vs) known.new }
 {
     mark(known, mark_at(text, judging.place, judging.extent));
-    let n = held(parameters, 36);
-    let mut i = 0;
-    while i < n {
+    for i in 0..held(parameters, 36) {
         let at = 36 * i + 1;
         let start = word(parameters, at);
         let length = word(parameters, at + 1);
         mark(known, mark_at(text, start, length));
-        i += 1;
     }
 }

@@ -6,7 +6,9 @@ pub mod declarations;
 pub mod heading;
 pub mod known;
 pub mod names;
+pub mod verdict;
 pub mod whole;
 
 pub use names::lookup;
-pub use whole::{Verdict, load};
+pub use verdict::{Counts, LONG, Refused, SHORT};
+pub use whole::{is_short, load};

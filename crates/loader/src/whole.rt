@@ -2,67 +2,42 @@
 ghost use Rattle.std.specs.Prelude.{◌≡◌, replicate};
 ghost use Rattle.loader.specs.Judge.{at_start, progress_of};
 ghost use Rattle.loader.specs.Ready.{Ready};
-ghost use Rattle.loader.specs.Load.{lent_as, tables_of, beginning, Sized, judged_as, once_read, verdict_of, is_accepted, judged, left_by, loaded, load_of};
+ghost use Rattle.loader.specs.Load.{lent_as, tables_of, beginning, Sized, judged_as, verdict_of, is_short, judged, left_by, loaded, load_of};
 
 use crate::declarations::declarations_of;
-use crate::heading::{Loading, moved, parameters_of};
+use crate::heading::{Loading, parameters_of};
 use crate::known::mark_heading;
-use rules::words::clear;
-use rules::{Fault, Judging, fault};
-use syntax::Step;
+use crate::verdict::{Counts, LONG, Refused, SHORT};
+use rules::{Fault, Judging};
+use syntax::kinds::END;
 use tables::scan::uncovered;
 use tables::words::word;
 
-const END: u16 = 255;
-
-// What loading answers: the counts of parameters, registers and variables; or the number of a refusal and its place.
-#[derive(Clone, Copy)]
-pub enum Verdict {
-    Accepted(u32, u32, u32),
-    Refused(u32, usize),
-}
-
-pub fn is_accepted(verdict: Verdict) -> bool
-    ensures { result ≡ is_accepted verdict }
-{
-    match verdict {
-        Verdict::Accepted(_, _, _) => true,
-        Verdict::Refused(_, _) => false,
-    }
-}
-
 // 6 to 16, once the text reads: the fault, or the register with a dot that is not mapped, or the counts.
 fn judged_as(
-    fault: Fault,
+    fault: Option<Fault>,
     uncovered: usize,
     parameters: &[u32],
     registers: &[u32],
     variables: &[u32],
-) -> Verdict
+) -> Result<Counts, Refused>
     ensures { result ≡ judged_as fault uncovered parameters.now registers.now variables.now }
 {
-    if fault::is_fault(fault) {
-        return Verdict::Refused(fault.number, fault.place);
+    if let Some(fault) = fault {
+        return Err(Refused::from(fault));
     }
     let count = word(registers, 0);
     if uncovered < count {
-        return Verdict::Refused(16, word(registers, 15 * uncovered + 1));
+        return Err(Refused {
+            number: 16,
+            place: word(registers, 15 * uncovered + 1),
+        });
     }
-    Verdict::Accepted(
-        word(parameters, 0) as u32,
-        count as u32,
-        word(variables, 0) as u32,
-    )
-}
-
-// 3 to 5 come first.
-fn once_read(step: Step, verdict: Verdict) -> Verdict
-    ensures { result ≡ once_read step verdict }
-{
-    match step {
-        Step::Refused(number, place) => Verdict::Refused(number as u32, place),
-        Step::At(_) => verdict,
-    }
+    Ok(Counts {
+        parameters: word(parameters, 0) as u32,
+        registers: count as u32,
+        variables: word(variables, 0) as u32,
+    })
 }
 
 // Nothing is read yet, and no rule is broken.
@@ -76,12 +51,9 @@ fn at_start() -> Loading
         judging: Judging {
             place: 0,
             extent: 0,
-            fault: Fault {
-                number: 0,
-                place: 0,
-            },
+            fault: None,
         },
-        step: Step::At(0),
+        step: Ok(0),
     }
 }
 
@@ -107,9 +79,8 @@ pub fn judge_text(
     let all = declarations_of(
         text, headed, parameters, registers, variables, reads, writes, &mut known,
     );
-    let after = all.step;
-    let end = syntax::fixed_after(text, END, after);
-    moved(all, end)
+    let step = syntax::fixed_after(text, END, all.step);
+    Loading { step, ..all }
 }
 
 // The verdict on a text, where the tables are of their stated sizes and all zero.
@@ -118,7 +89,7 @@ fn verdict_on(
     parameters: &mut [u32],
     registers: &mut [u32],
     variables: &mut [u32],
-) -> Verdict
+) -> Result<Counts, Refused>
     requires { lent_as parameters.old registers.old variables.old ≡ tables_of beginning }
     ensures answered { result ≡ verdict_of (judged text.now) }
     ensures left { lent_as parameters.new registers.new variables.new ≡ tables_of (judged text.now).made }
@@ -133,14 +104,10 @@ fn verdict_on(
         &mut reads,
         &mut writes,
     );
-    let end = all.step;
-    let judging = all.judging;
-    let fault = judging.fault;
+    // 3 to 5 come first.
+    all.step?;
     let first = uncovered(registers, &reads, &writes);
-    once_read(
-        end,
-        judged_as(fault, first, parameters, registers, variables),
-    )
+    judged_as(all.judging.fault, first, parameters, registers, variables)
 }
 
 // Loads a text into tables of their stated sizes, whatever they held.
@@ -149,22 +116,28 @@ fn load_into(
     parameters: &mut [u32],
     registers: &mut [u32],
     variables: &mut [u32],
-) -> Verdict
+) -> Result<Counts, Refused>
     requires { Sized parameters.old registers.old variables.old }
     ensures answered { result ≡ verdict_of (judged text.now) }
     ensures left { lent_as parameters.new registers.new variables.new ≡ tables_of (left_by (judged text.now)) }
 {
-    clear(parameters);
-    clear(registers);
-    clear(variables);
+    parameters.fill(0);
+    registers.fill(0);
+    variables.fill(0);
     let verdict = verdict_on(text, parameters, registers, variables);
-    if is_accepted(verdict) {
-        return verdict;
+    if verdict.is_err() {
+        parameters.fill(0);
+        registers.fill(0);
+        variables.fill(0);
     }
-    clear(parameters);
-    clear(registers);
-    clear(variables);
     verdict
+}
+
+// 1: a lent table is shorter than its stated size.
+pub fn is_short(parameters: &[u32], registers: &[u32], variables: &[u32]) -> bool
+    ensures { result ≡ is_short (lent_as parameters.now registers.now variables.now) }
+{
+    parameters.len() < 577 || registers.len() < 961 || variables.len() < 7553
 }
 
 // Loads a description: the answer, and the tables, are those of `load_of`.
@@ -173,14 +146,14 @@ pub fn load(
     parameters: &mut [u32],
     registers: &mut [u32],
     variables: &mut [u32],
-) -> Verdict
+) -> Result<Counts, Refused>
     ensures { loaded result parameters.new registers.new variables.new ≡ load_of text.now (lent_as parameters.old registers.old variables.old) }
 {
-    if (parameters.len() < 577) | (registers.len() < 961) | (variables.len() < 7553) {
-        return Verdict::Refused(1, 0);
+    if is_short(parameters, registers, variables) {
+        return Err(SHORT);
     }
     if 8192 < text.len() {
-        return Verdict::Refused(2, 0);
+        return Err(LONG);
     }
     load_into(
         text,

@@ -1,163 +1,116 @@
 // The map of an accepted description: its parameters, a row for each eight bits of a register, and its variables.
 #![tactic(auto)]
 
+mod described;
 mod each;
 mod row;
 mod summary;
 
+use crate::described::Described;
 use crate::row::show_row;
 use crate::summary::show_variable;
-use details::entries::{
-    count_of, parameter_name, parameter_width, register_has, register_name, same_place,
-};
+use details::entries::{Entry, count_of, parameter_width, register_has, same_place};
 use details::rows::same_register;
-use details::search::{Test, first_in, serves_with};
+use details::search::{serves_with, telling};
 use rules::Judging;
 use rules::names::name_of;
 use std::io;
 use tables::Part;
-use wording::parts::{Entry, show_offsets, show_place};
-use wording::write::{fill, from_one, say, say_number, write};
+use wording::parts::{show_offsets, show_place};
+use wording::write::{fill, quoted};
 
 // base        offsets 0..3, 16 bits: of a wider port than the usual one it is said how wide
-fn show_parameter(
-    out: &mut impl io::Write,
-    text: &[u8],
-    parameters: &[u32],
-    i: u32,
-) -> io::Result<()> {
-    let width = parameter_width(parameters, i);
-    let name = parameter_name(text, parameters, i);
-    write(out, b"  ")?;
-    write(out, name)?;
-    fill(out, from_one(from_one(name.len())), 14)?;
-    show_offsets(out, parameters, i)?;
+fn show_parameter(out: &mut impl io::Write, device: Described, i: u32) -> io::Result<()> {
+    let width = parameter_width(device.parameters, i);
+    let name = Entry::Parameter.name(device.text, device.parameters, i);
+    write!(out, "  ")?;
+    out.write_all(name)?;
+    fill(out, name.len().saturating_add(2), 14)?;
+    show_offsets(out, device.parameters, i)?;
     if width != 8 {
-        say_number(out, b", # bits", width)?;
+        write!(out, ", {width} bits")?;
     }
-    write(out, b"\n")
+    writeln!(out)
 }
 
 // The same rows serve both parts where they are alike.
-fn show_rows(
-    out: &mut impl io::Write,
-    text: &[u8],
-    registers: &[u32],
-    variables: &[u32],
-    i: u32,
-) -> io::Result<()> {
-    if same_register(registers, variables, i) {
-        return show_row(out, text, registers, variables, i, Part::Read, b"r w");
+fn show_rows(out: &mut impl io::Write, device: Described, i: u32) -> io::Result<()> {
+    if same_register(device.registers, device.variables, i) {
+        return show_row(out, device, i, Part::Read, "r w");
     }
-    if register_has(registers, i, Part::Read) {
-        show_row(out, text, registers, variables, i, Part::Read, b"r  ")?;
+    if register_has(device.registers, i, Part::Read) {
+        show_row(out, device, i, Part::Read, "r  ")?;
     }
-    if register_has(registers, i, Part::Write) {
-        show_row(out, text, registers, variables, i, Part::Write, b"  w")?;
+    if register_has(device.registers, i, Part::Write) {
+        show_row(out, device, i, Part::Write, "  w")?;
     }
     Ok(())
 }
 
-// , told from `low` by bit 7
-fn show_told(
-    out: &mut impl io::Write,
-    text: &[u8],
-    registers: &[u32],
-    i: u32,
-    j: u32,
-) -> io::Result<()> {
-    if serves_with(registers, i, Part::Write, j) {
-        let name = register_name(text, registers, j);
-        let bit = first_in(registers, Test::Tells(i, Part::Write, j)) as usize;
-        say(out, b",\n    told from $ by bit #", bit, name, b"")?;
-    }
-    Ok(())
-}
-
-// The registers before this one that share its write place.
+// The registers before this one that share its write place, as: , told from `low` by bit 7
 fn show_beside(out: &mut impl io::Write, text: &[u8], registers: &[u32], i: u32) -> io::Result<()> {
-    let mut j: u32 = 0;
-    while j < i {
-        show_told(out, text, registers, i, j)?;
-        j += 1;
+    for j in 0..i {
+        if serves_with(registers, i, Part::Write, j) {
+            write!(out, ",\n    told from ")?;
+            quoted(out, Entry::Register.name(text, registers, j))?;
+            let bit = telling(registers, i, Part::Write, j).unwrap_or(32);
+            write!(out, " by bit {bit}")?;
+        }
     }
     Ok(())
 }
 
 // high: base @ 0
-fn show_places(
-    out: &mut impl io::Write,
-    text: &[u8],
-    parameters: &[u32],
-    registers: &[u32],
-    i: u32,
-) -> io::Result<()> {
+fn show_places(out: &mut impl io::Write, device: Described, i: u32) -> io::Result<()> {
+    let Described {
+        text,
+        parameters,
+        registers,
+        ..
+    } = device;
     let read = register_has(registers, i, Part::Read);
     let write_part = register_has(registers, i, Part::Write);
-    write(out, register_name(text, registers, i))?;
-    write(out, b": ")?;
+    out.write_all(Entry::Register.name(text, registers, i))?;
+    write!(out, ": ")?;
     if same_place(registers, i) {
         show_place(out, text, parameters, registers, i, Part::Read)?;
     } else {
         if read {
-            write(out, b"read ")?;
+            write!(out, "read ")?;
             show_place(out, text, parameters, registers, i, Part::Read)?;
         }
         if read & write_part {
-            write(out, b", ")?;
+            write!(out, ", ")?;
         }
         if write_part {
-            write(out, b"write ")?;
+            write!(out, "write ")?;
             show_place(out, text, parameters, registers, i, Part::Write)?;
         }
     }
     if write_part {
         show_beside(out, text, registers, i)?;
     }
-    write(out, b"\n")
+    writeln!(out)
 }
 
-fn show_entry(
-    out: &mut impl io::Write,
-    text: &[u8],
-    parameters: &[u32],
-    registers: &[u32],
-    variables: &[u32],
-    entry: Entry,
-    i: u32,
-) -> io::Result<()> {
-    match entry {
-        Entry::Parameter => show_parameter(out, text, parameters, i),
-        Entry::Register => {
-            show_places(out, text, parameters, registers, i)?;
-            show_rows(out, text, registers, variables, i)
-        }
-        Entry::Variable => show_variable(out, text, parameters, registers, variables, i),
+fn show_parameters(out: &mut impl io::Write, device: Described) -> io::Result<()> {
+    for i in 0..count_of(device.parameters) {
+        show_parameter(out, device, i)?;
     }
+    Ok(())
 }
 
-fn entries_of(parameters: &[u32], registers: &[u32], variables: &[u32], entry: Entry) -> u32 {
-    match entry {
-        Entry::Parameter => count_of(parameters),
-        Entry::Register => count_of(registers),
-        Entry::Variable => count_of(variables),
+fn show_registers(out: &mut impl io::Write, device: Described) -> io::Result<()> {
+    for i in 0..count_of(device.registers) {
+        show_places(out, device, i)?;
+        show_rows(out, device, i)?;
     }
+    Ok(())
 }
 
-// All entries of a table.
-fn show_entries(
-    out: &mut impl io::Write,
-    text: &[u8],
-    parameters: &[u32],
-    registers: &[u32],
-    variables: &[u32],
-    entry: Entry,
-) -> io::Result<()> {
-    let n = entries_of(parameters, registers, variables, entry);
-    let mut i: u32 = 0;
-    while i < n {
-        show_entry(out, text, parameters, registers, variables, entry, i)?;
-        i += 1;
+fn show_variables(out: &mut impl io::Write, device: Described) -> io::Result<()> {
+    for v in 0..count_of(device.variables) {
+        show_variable(out, device, v)?;
     }
     Ok(())
 }
@@ -170,25 +123,24 @@ pub fn show_map(
     registers: &[u32],
     variables: &[u32],
 ) -> io::Result<()> {
-    write(out, b"\ndevice ")?;
-    write(out, name_of(text, judging.place, judging.extent))?;
-    write(out, b"\n")?;
-    show_entries(
-        out,
+    let device = Described {
         text,
         parameters,
         registers,
         variables,
-        Entry::Parameter,
-    )?;
-    write(
+    };
+    write!(out, "\ndevice ")?;
+    out.write_all(name_of(text, judging.place, judging.extent))?;
+    writeln!(out)?;
+    show_parameters(out, device)?;
+    writeln!(
         out,
-        b"\nregisters  7        6        5        4        3        2        1        0\n",
+        "\nregisters  7        6        5        4        3        2        1        0"
     )?;
-    show_entries(out, text, parameters, registers, variables, Entry::Register)?;
+    show_registers(out, device)?;
     if 0 < count_of(variables) {
-        write(out, b"\nvariables\n")?;
-        show_entries(out, text, parameters, registers, variables, Entry::Variable)?;
+        writeln!(out, "\nvariables")?;
+        show_variables(out, device)?;
     }
     Ok(())
 }

@@ -1,15 +1,16 @@
 // A register's part as rows of eight cells, the highest bits first: the variable that holds a run of bits, and which of
 // its bits they are, or what the mask says of a bit.
-ghost use Rattle.std.specs.Prelude.{◌-◌, ◌≤◌};
+ghost use Rattle.std.specs.Prelude.{◌≤◌};
 
-use details::entries::{count_of, register_width, register_word, variable_name, variable_width};
+use crate::described::Described;
+use details::entries::{Entry, mask_bit, register_width, variable_width};
 use details::rows::{holder_of, run_below, weight_of};
 use rules::names::name_of;
 use rules::words::narrow;
 use std::io;
 use tables::Part;
 use wording::parts::show_bracket;
-use wording::write::{blanks, say_number, span, write};
+use wording::write::blanks;
 
 // A weight and two signs beside it: how wide they are. A variable has at most 32 bits.
 fn weight_columns(weight: usize) -> usize
@@ -30,15 +31,15 @@ fn weights_columns(high: usize, low: usize) -> usize {
 // A name in so many columns, cut where it is longer; how many it takes.
 fn show_label(out: &mut impl io::Write, name: &[u8], columns: usize) -> io::Result<usize> {
     if name.len() < columns {
-        write(out, b" ")?;
-        write(out, name)?;
+        write!(out, " ")?;
+        out.write_all(name)?;
         return Ok(name.len() + 1);
     }
     if name.len() == columns {
-        write(out, name)?;
+        out.write_all(name)?;
     } else if 0 < columns {
-        write(out, name_of(name, 0, columns - 1))?;
-        write(out, b"~")?;
+        out.write_all(name_of(name, 0, columns - 1))?;
+        write!(out, "~")?;
     }
     Ok(columns)
 }
@@ -53,12 +54,12 @@ fn show_cell(
     columns: usize,
 ) -> io::Result<()> {
     let weights = if whole { 0 } else { weights_columns(high, low) };
-    let used = show_label(out, name, span(weights, columns))?;
+    let used = show_label(out, name, columns.saturating_sub(weights))?;
     if !whole {
         show_bracket(out, high, low)?;
     }
-    blanks(out, span(weights, span(used, columns)))?;
-    write(out, b"|")
+    blanks(out, columns.saturating_sub(used).saturating_sub(weights))?;
+    write!(out, "|")
 }
 
 // A bit that no variable holds: `0`, `1` or `*`.
@@ -67,57 +68,38 @@ fn show_fixed(
     registers: &[u32],
     i: u32,
     part: Part,
-    b: usize,
+    b: u32,
 ) -> io::Result<()> {
-    if bits::bit_of(register_word(registers, i, part, 5), b) {
-        write(out, b"    1   |")
-    } else if bits::bit_of(register_word(registers, i, part, 4), b) {
-        write(out, b"    0   |")
+    if mask_bit(registers, i, part, 5, b) {
+        write!(out, "    1   |")
+    } else if mask_bit(registers, i, part, 4, b) {
+        write!(out, "    0   |")
     } else {
-        write(out, b"    *   |")
+        write!(out, "    *   |")
     }
 }
 
 // Eight columns for a bit, and one for each bar inside: a row fits in 80.
 fn cell_columns(run: u32) -> usize {
-    if 0 < run { 9 * (run as usize) - 1 } else { 0 }
+    (9 * (run as usize)).saturating_sub(1)
 }
 
-// What is left of so many bits, fewer at each turn.
-fn less(left: u32, run: u32) -> u32
-    ensures { result ≤ left - 1 }
-{
-    if 0 < run {
-        if run < left {
-            return left - run;
-        }
-    }
-    0
-}
-
-// How many bits below `left` the one variable holds, down to the row's lowest.
-fn run_in_row(variables: &[u32], i: u32, part: Part, left: u32, lowest: u32) -> u32 {
-    let run = run_below(variables, i, part, left);
-    let room = if lowest < left { left - lowest } else { 0 };
-    if room < run { room } else { run }
-}
-
-// The cell of variable v whose highest bit is below `left`; how many bits it takes.
+// The cell of variable v whose highest bit is below `left`; how many bits it takes, down to the row's lowest.
 fn show_held(
     out: &mut impl io::Write,
-    text: &[u8],
-    variables: &[u32],
+    device: Described,
     v: u32,
     i: u32,
     part: Part,
     left: u32,
     lowest: u32,
 ) -> io::Result<u32> {
-    let run = run_in_row(variables, i, part, left, lowest);
-    let high = weight_of(variables, part, i, less(left, 1));
-    let low = weight_of(variables, part, i, less(left, run));
+    let variables = device.variables;
+    let run = run_below(variables, i, part, left).min(left.saturating_sub(lowest));
+    let high = weight_of(variables, part, i, left.saturating_sub(1)).unwrap_or(0);
+    let low = weight_of(variables, part, i, left.saturating_sub(run)).unwrap_or(0);
     let whole = run as usize == variable_width(variables, v);
-    let name = variable_name(text, variables, v);
+    let name = Entry::Variable.name(device.text, variables, v);
     show_cell(out, name, whole, high, low, cell_columns(run))?;
     Ok(run)
 }
@@ -125,55 +107,37 @@ fn show_held(
 // The cell whose highest bit is below `left`; how many bits it takes.
 fn show_next(
     out: &mut impl io::Write,
-    text: &[u8],
-    registers: &[u32],
-    variables: &[u32],
+    device: Described,
     i: u32,
     part: Part,
     left: u32,
     lowest: u32,
 ) -> io::Result<u32> {
-    let top = less(left, 1);
-    let v = holder_of(variables, part, i, top);
-    if v < count_of(variables) {
-        show_held(out, text, variables, v, i, part, left, lowest)
-    } else {
-        show_fixed(out, registers, i, part, top as usize)?;
-        Ok(1)
-    }
-}
-
-// The lowest bit of the row that ends below `left`: each row has eight bits.
-fn lowest_of(left: u32) -> u32
-    ensures { result ≤ left - 1 }
-{
-    if 0 < left {
-        left - 1 - (left - 1) % 8
-    } else {
-        0
+    let top = left.saturating_sub(1);
+    match holder_of(device.variables, part, i, top) {
+        Some(v) => show_held(out, device, v, i, part, left, lowest),
+        None => {
+            show_fixed(out, device.registers, i, part, top)?;
+            Ok(1)
+        }
     }
 }
 
 //   r w |, or r w +8| where a bit's number is that of its column and 8 more
-fn show_head(out: &mut impl io::Write, marks: &[u8], lowest: u32) -> io::Result<()> {
+fn show_head(out: &mut impl io::Write, marks: &str, lowest: u32) -> io::Result<()> {
     if lowest == 0 {
-        write(out, b"  ")?;
-        write(out, marks)?;
-        return write(out, b" |");
+        write!(out, "  {marks} |")
+    } else if lowest < 10 {
+        write!(out, "{marks} +{lowest}|")
+    } else {
+        write!(out, "{marks}+{lowest}|")
     }
-    write(out, marks)?;
-    if lowest < 10 {
-        write(out, b" ")?;
-    }
-    say_number(out, b"+#|", lowest as usize)
 }
 
-// The cells of the row that ends below `left`.
+// The cells of the row that ends below `left`. Each turn shows a run of bits, which says how many it takes.
 fn show_cells(
     out: &mut impl io::Write,
-    text: &[u8],
-    registers: &[u32],
-    variables: &[u32],
+    device: Described,
     i: u32,
     part: Part,
     left: u32,
@@ -181,27 +145,31 @@ fn show_cells(
 ) -> io::Result<()> {
     let mut here = left;
     while lowest < here {
-        let run = show_next(out, text, registers, variables, i, part, here, lowest)?;
-        here = less(here, run);
+        let run = show_next(out, device, i, part, here, lowest)?;
+        here = here.saturating_sub(run.max(1));
     }
-    write(out, b"\n")
+    writeln!(out)
 }
 
 pub fn show_row(
     out: &mut impl io::Write,
-    text: &[u8],
-    registers: &[u32],
-    variables: &[u32],
+    device: Described,
     i: u32,
     part: Part,
-    marks: &[u8],
+    marks: &str,
 ) -> io::Result<()> {
-    let mut left = narrow(register_width(registers, i));
-    while 0 < left {
-        let lowest = lowest_of(left);
+    let width = narrow(register_width(device.registers, i));
+    for row in (0..width.div_ceil(8)).rev() {
+        let lowest = 8 * row;
         show_head(out, marks, lowest)?;
-        show_cells(out, text, registers, variables, i, part, left, lowest)?;
-        left = lowest;
+        show_cells(
+            out,
+            device,
+            i,
+            part,
+            width.min(lowest.saturating_add(8)),
+            lowest,
+        )?;
     }
     Ok(())
 }

@@ -3,7 +3,7 @@
 use mathlib.Core.Path.{ap₂}
 use mathlib.Core.List.{List, [], ◌∷◌}
 use lib.ListN.{take, drop}
-use Rattle.loader.specs.declared.whole.Verdict.{Verdict}
+use Rattle.loader.specs.Verdict.{Verdict}
 use Rattle.station.specs.declared.Answer.{Answer}
 use Rattle.marked.specs.Marked.{marked, answers_to, MarkedCases}
 use Rattle.marked.proofs.Computing.{computing}

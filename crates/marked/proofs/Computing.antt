@@ -28,13 +28,13 @@ use Rattle.tables.specs.Marks.{down_from, joined, has, meets, distinct}
 use Rattle.bits.specs.Widths.{is_width}
 use Rattle.tables.specs.Rules.{as_wide, width_kept, ranges_fit, parameter_fault, offset_in, placed, told_apart, place_taken, register_fault, on_dots, piece_fits, part_maps, width_fits, type_fits, volatile_fits, own_fault, mapped_before, trigger_shared, variable_fault, covered}
 use Rattle.tables.specs.View.{register_count, register_width, register_has, parameter_of, offset_of, is_dot, is_one, obeys, variable_count, kind_of, variable_has, bits_of, size, place_of, without, mentions, registers_of}
-use Rattle.rules.specs.Fault.{no_fault, fault_if, only, is_fault, or_else}
+use Rattle.rules.specs.Fault.{fault_if, fault_of, only, or_else}
 use Rattle.rules.specs.Lists.{high_in, piece_named, unknown_in, piece_words, pieces_on, all_have, list_for, part_words}
-use Rattle.rules.specs.Mask.{is_element, bits_held, elements, mask_of, all_dots, mask_at}
+use Rattle.rules.specs.Mask.{bits_held, elements, mask_of, all_dots, mask_at}
 use Rattle.rules.specs.Modifiers.{are_paired, at_most_one}
-use Rattle.rules.specs.Names.{stands_at, is_named, held_of, found_below, found_in, is_nothing, index_of, is_declared, declared_before}
+use Rattle.rules.specs.Names.{stands_at, is_named, held_of, found_below, found_in, is_declared, declared_before}
 use Rattle.rules.specs.Parameter.{judge_device, parameter_entry, added_parameter, judge_parameter}
-use Rattle.rules.specs.Register.{is_natural, natural_of, has_part_lem, masks_long, masks_kept, port_of, part_mask, part_entry, port_found, part_words as part_words-of-register, register_entry, unknown_port, bad_offset, register_written, added_register, judge_register}
+use Rattle.rules.specs.Register.{natural_in, has_part_lem, masks_long, masks_kept, port_of, part_mask, part_entry, port_found, part_words as part_words-of-register, register_entry, unknown_port, bad_offset, register_written, added_register, judge_register}
 use Rattle.rules.specs.State.{unless_stopped, stopped, unless_broken, with_parameters, with_registers, with_variables}
 use Rattle.rules.specs.Variable.{flag_of, triggers, head_words, with_variable, bad_behaviours, lowest, name_fault, early_fault, late_number, added_variable, judge_variable}
 use Rattle.rules.specs.Words.{word_of as word_of-of-words, written, appended}
@@ -71,7 +71,7 @@ entries = tt
 
 -- the rules of one declaration
 unfoldable pub rules : Unit {0}
-unfolding no_fault fault_if only is_fault or_else high_in piece_named unknown_in piece_words pieces_on all_have list_for part_words is_element bits_held elements mask_of all_dots mask_at are_paired at_most_one stands_at is_named held_of found_below found_in is_nothing index_of is_declared declared_before judge_device parameter_entry added_parameter judge_parameter is_natural natural_of has_part_lem masks_long masks_kept port_of part_mask part_entry port_found part_words-of-register register_entry unknown_port bad_offset register_written added_register judge_register unless_stopped stopped unless_broken with_parameters with_registers with_variables flag_of triggers head_words with_variable bad_behaviours lowest name_fault early_fault late_number added_variable judge_variable word_of-of-words written appended
+unfolding fault_if fault_of only or_else high_in piece_named unknown_in piece_words pieces_on all_have list_for part_words bits_held elements mask_of all_dots mask_at are_paired at_most_one stands_at is_named held_of found_below found_in is_declared declared_before judge_device parameter_entry added_parameter judge_parameter natural_in has_part_lem masks_long masks_kept port_of part_mask part_entry port_found part_words-of-register register_entry unknown_port bad_offset register_written added_register judge_register unless_stopped stopped unless_broken with_parameters with_registers with_variables flag_of triggers head_words with_variable bad_behaviours lowest name_fault early_fault late_number added_variable judge_variable word_of-of-words written appended
 rules = tt
 
 -- a whole text

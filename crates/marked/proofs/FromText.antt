@@ -7,7 +7,7 @@ use mathlib.Core.List.{List}
 use lib.ListN.{length}
 use borrow.Author.Tests.{le-leb}
 use Rattle.tables.specs.View.{Tables, sound, register_count, variable_count}
-use Rattle.loader.specs.declared.whole.Verdict.TheVariants.{Accepted}
+use Rattle.loader.specs.Verdict.{accepted}
 use Rattle.loader.specs.Load.{load_of, is_accepted}
 use Rattle.loader.proofs.Accepted.{accepted-sound}
 use Rattle.loader.proofs.ByNumber.{accepted-exactly}
@@ -30,7 +30,7 @@ serves t r v ok r-is v-is =
       demand = demand-3 t;
     }
 
-pub from-text : (text : List ℕ) (lent : Tables) (p r v : ℕ) → (load_of text lent).verdict ≡ Accepted p r v → Serves (load_of text lent).tables r v
+pub from-text : (text : List ℕ) (lent : Tables) (p r v : ℕ) → (load_of text lent).verdict ≡ accepted p r v → Serves (load_of text lent).tables r v
 unfolding is_accepted register_count variable_count
 from-text text lent p r v e =
     let accepts = ((accepted-exactly text lent p r v).0 e).1 in

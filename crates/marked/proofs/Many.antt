@@ -5,13 +5,14 @@ use mathlib.Core.Path.{◌≡◌, refl, sym, ap, ◌∙◌}
 use mathlib.Core.Bool.{false}
 use mathlib.Core.List.{List, ◌∷◌, ◌++◌}
 use lib.ListN.{length, replicate}
-use Rattle.syntax.specs.declared.reader.Step.TheVariants.{At, Refused as Stopped}
+use Rattle.std.specs.Prelude.{Ok, None}
+use Rattle.syntax.specs.Step.{too_much_at}
 use Rattle.syntax.specs.KindNames.{sign, end-kind}
 use Rattle.syntax.specs.Reader.{fixed_after}
 use Rattle.syntax.specs.Text.{Progress, begins, moved_to, declaration_with, more_declarations, parameters_with, declarations_with, reading_with, reading, remade}
 use Rattle.syntax.proofs.Folded.{reading-folds}
 use Rattle.rules.specs.State.{State}
-use Rattle.loader.specs.declared.whole.Verdict.TheVariants.{Accepted, Refused}
+use Rattle.loader.specs.Verdict.{accepted, refused}
 use Rattle.loader.specs.Judge.{judge}
 use Rattle.loader.specs.Load.{beginning, judged, once_read, verdict_of, is_short, is_long, load_of}
 use Rattle.marked.specs.Marked.{registers_then, many, blank}
@@ -25,11 +26,11 @@ sized text e = rw e
 
 -- ── one more: reading alone decides ──
 
-too_many_lem : (reading (many 65)).step ≡ Stopped 5 2976
+too_many_lem : (reading (many 65)).step ≡ too_much_at 2976
 unfolding computing
 too_many_lem = refl
 
-pub sixty-five : (load_of (many 65) blank).verdict ≡ Refused 5 2976
+pub sixty-five : (load_of (many 65) blank).verdict ≡ refused 5 2976
 unfolding verdict_of judged remade once_read
 sixty-five = sized (many 65) (unfold computing in refl) ∙ rw too_many_lem
 
@@ -66,9 +67,9 @@ loaded_to n =
         parameters = 1 ∷ 9 ∷ 1 ∷ 8 ∷ 1 ∷ 0 ∷ 63 ∷ replicate 570 0;
         registers = n ∷ entries_then n (replicate (960 - 15 * n) 0);
         variables = replicate 7553 0;
-        fault = record { number = 0; place = start (n - 1) + 9 };
+        fault = None;
       };
-      step = At (start n);
+      step = Ok (start n);
     }
 
 -- so many declarations more
@@ -77,7 +78,7 @@ more n p = more_declarations (judge text) text n p
 
 -- the heading, and the first register
 abbrev heading : Progress State
-heading = parameters_with (judge text) text (record { parameters = 0; registers = 0; variables = 0; made = beginning; step = At 0 })
+heading = parameters_with (judge text) text (record { parameters = 0; registers = 0; variables = 0; made = beginning; step = Ok 0 })
 
 abbrev first : Progress State
 first = declaration_with (judge text) text (moved_to heading (fixed_after text (sign "{") heading.step))
@@ -129,7 +130,7 @@ to_64 : more 7 (loaded_to 57) ≡ loaded_to 64
 unfolding computing loaded_to
 to_64 = refl
 
-to_end : verdict_of (closed (more 2914 (loaded_to 64))) ≡ Accepted 1 64 0
+to_end : verdict_of (closed (more 2914 (loaded_to 64))) ≡ accepted 1 64 0
 unfolding computing loaded_to
 to_end = refl
 
@@ -152,7 +153,7 @@ strides =
     ∙ on 2921 (loaded_to 50) (loaded_to 57) to_57
     ∙ on 2914 (loaded_to 57) (loaded_to 64) to_64
 
-pub sixty-four : (load_of (many 64) blank).verdict ≡ Accepted 1 64 0
+pub sixty-four : (load_of (many 64) blank).verdict ≡ accepted 1 64 0
 unfolding judged reading_with declarations_with
 sixty-four =
     sized text (unfold computing in refl)

@@ -6,7 +6,7 @@ use mathlib.Core.Bool.{Bool, true, false}
 use mathlib.Core.List.{List, [], ◌∷◌, ◌++◌, map, map-append}
 use lib.ListN.{take, drop, take-append-drop}
 use Rattle.tables.specs.View.{Tables, sound}
-use Rattle.loader.specs.declared.whole.Verdict.{Verdict}
+use Rattle.loader.specs.Verdict.{Verdict}
 use Rattle.loader.specs.Load.{Loaded, load_of, is_accepted}
 use Rattle.loader.proofs.Accepted.{accepted-sound}
 use Rattle.station.specs.declared.Answer.{Answer}

@@ -5,7 +5,7 @@ use native.Mathlib.Nat.{zero-add, suc-add}
 use mathlib.Core.Path.{◌≡◌, refl, sym, ap, ◌∙◌}
 use mathlib.Core.Bool.{Bool, true, false}
 use mathlib.Core.List.{List}
-use Rattle.syntax.specs.declared.reader.Step.{Step}
+use Rattle.syntax.specs.Step.{Step}
 use Rattle.syntax.specs.Reader.{seen_at}
 use Rattle.syntax.specs.Loop.{loop_with}
 use Rattle.syntax.proofs.LoopSteps.{loop-end, loop-on}

@@ -3,7 +3,7 @@
 -- interruption and control are only written, and the first two share an offset. Assumes nothing.
 use Rattle.std.specs.Prelude.{ℕ, ◌≡◌, List, [], ◌∷◌, ◌++◌, pos}
 use Rattle.token.specs.Bytes.{bytes}
-use Rattle.loader.specs.declared.whole.Verdict.TheVariants.{Accepted}
+use Rattle.loader.specs.Verdict.{accepted}
 use Rattle.station.specs.declared.Answer.TheVariants.{Refused as CallRefused, Done}
 use Rattle.board.specs.Board.{BeginWrite, whole_read, whole_write}
 use Rattle.marked.specs.Marked.{Case, runs, reads, writes, any, outcome_of, stated_by}
@@ -21,7 +21,7 @@ mouse =
 -- offset, and the control register configured, each with its mask's fixed bits; what is only read is not written
 unfoldable pub bus_mouse : Case
 bus_mouse =
-    runs mouse (Accepted 1 5 7) (0x6B ∷ 0 ∷ 0 ∷ 0 ∷ 0 ∷ [])
+    runs mouse (accepted 1 5 7) (0x6B ∷ 0 ∷ 0 ∷ 0 ∷ 0 ∷ [])
     (whole_read 0 (any ∷ []) ++ whole_write 3 (pos 0xA5) (any ∷ []) ++ whole_read 3 (any ∷ []) ++ whole_write 4 (pos 2) (any ∷ []) ++
     whole_write 5 (pos 1) (any ∷ []) ++ whole_write 6 (pos 1) (any ∷ []) ++ BeginWrite 0 (pos 1) ∷ [])
     (reads 0 ∷ Done (pos 3) 1 ∷ writes 1 0xA5 ∷ Done (pos 0xA5) 1 ∷ reads 1 ∷ Done (pos 0xA5) 1 ∷ writes 2 0xC0 ∷ Done (pos 2) 1

@@ -8,8 +8,7 @@ use Prim.Native.String.{String}
 use Rattle.token.specs.Bytes.{bytes}
 use Rattle.tables.specs.declared.Part.TheVariants.{Read as reading, Write as writing}
 use Rattle.tables.specs.View.{Tables, sound}
-use Rattle.loader.specs.declared.whole.Verdict.{Verdict}
-use Rattle.loader.specs.declared.whole.Verdict.TheVariants.{Accepted, Refused}
+use Rattle.loader.specs.Verdict.{Verdict, accepted, refused}
 use Rattle.loader.specs.Load.{load_of}
 use Rattle.station.specs.declared.Answer.{Answer}
 use Rattle.station.specs.declared.Answer.TheVariants.{Refused as CallRefused, Offer as Offered, Done}
@@ -104,31 +103,31 @@ abbrev pub -2 : ℤ
 -- without such a bit, and read parts
 unfoldable pub marked : List Case
 marked =
-    loads (with_variables_lem "variable v=r:int(8);") (Accepted 1 1 1)
-    ∷ loads (bytes "") (Refused 4 0)
-    ∷ loads (bytes "device d(base:bit[8] port){register r=base:bit[8];variable v=r:int(8);") (Refused 4 70)
-    ∷ loads (with_variables_lem "variable v=q:int(8);") (Refused 7 61)
-    ∷ loads (with_variables_lem "variable v=r:int(7);") (Refused 12 59)
-    ∷ loads (with_variables_lem "variable v=r[0..7]:int(8);") (Refused 11 59)
-    ∷ loads (with_variables_lem "variable v=r[7..1]:int(7);") (Refused 16 36)
-    ∷ loads (with_variables_lem "variable v=r[7..4]:int(4);variable w=r[4..0]:int(5);") (Refused 14 85)
-    ∷ runs (at_offset "8-3-2") (Accepted 1 1 1) (0 ∷ []) (BeginRead 0 ∷ []) (reads 3 ∷ [])
-    ∷ runs (at_offset "(1+2)*1") (Accepted 1 1 1) (0 ∷ []) (BeginRead 0 ∷ []) (reads 3 ∷ [])
-    ∷ loads (at_offset "4") (Refused 8 49)
-    ∷ loads (at_offset "1-2") (Refused 8 49)
-    ∷ loads (at_offset "7/0") (Refused 8 49)
-    ∷ runs masked (Accepted 1 1 1) (0 ∷ []) (whole_write 0 (pos 2) (any ∷ []) ++ BeginWrite 0 (pos 4) ∷ []) (writes 0 0xC0 ∷ Done (pos 2) 1 ∷ CallRefused 55 ∷ [])
-    ∷ runs (sharing "1..00000" "000.0000") (Accepted 1 2 2) (0xFF ∷ 0xFF ∷ []) (whole_write 0 (pos 1) (any ∷ []) ++ whole_write 1 (pos 1) (any ∷ []))
+    loads (with_variables_lem "variable v=r:int(8);") (accepted 1 1 1)
+    ∷ loads (bytes "") (refused 4 0)
+    ∷ loads (bytes "device d(base:bit[8] port){register r=base:bit[8];variable v=r:int(8);") (refused 4 70)
+    ∷ loads (with_variables_lem "variable v=q:int(8);") (refused 7 61)
+    ∷ loads (with_variables_lem "variable v=r:int(7);") (refused 12 59)
+    ∷ loads (with_variables_lem "variable v=r[0..7]:int(8);") (refused 11 59)
+    ∷ loads (with_variables_lem "variable v=r[7..1]:int(7);") (refused 16 36)
+    ∷ loads (with_variables_lem "variable v=r[7..4]:int(4);variable w=r[4..0]:int(5);") (refused 14 85)
+    ∷ runs (at_offset "8-3-2") (accepted 1 1 1) (0 ∷ []) (BeginRead 0 ∷ []) (reads 3 ∷ [])
+    ∷ runs (at_offset "(1+2)*1") (accepted 1 1 1) (0 ∷ []) (BeginRead 0 ∷ []) (reads 3 ∷ [])
+    ∷ loads (at_offset "4") (refused 8 49)
+    ∷ loads (at_offset "1-2") (refused 8 49)
+    ∷ loads (at_offset "7/0") (refused 8 49)
+    ∷ runs masked (accepted 1 1 1) (0 ∷ []) (whole_write 0 (pos 2) (any ∷ []) ++ BeginWrite 0 (pos 4) ∷ []) (writes 0 0xC0 ∷ Done (pos 2) 1 ∷ CallRefused 55 ∷ [])
+    ∷ runs (sharing "1..00000" "000.0000") (accepted 1 2 2) (0xFF ∷ 0xFF ∷ []) (whole_write 0 (pos 1) (any ∷ []) ++ whole_write 1 (pos 1) (any ∷ []))
     (writes 0 0xA0 ∷ Done (pos 1) 1 ∷ writes 0 0x10 ∷ Done (pos 1) 1 ∷ [])
-    ∷ loads (sharing "1..*****" "*00.0000") (Refused 10 75)
-    ∷ loads (bytes "device d(b:bit[8] port){register p=b,mask '1*******':bit[8];register q=b,mask '0*******':bit[8];}") (Refused 10 69)
-    ∷ runs joint (Accepted 1 2 1) (0 ∷ 0 ∷ []) (whole_write 0 -2 (any ∷ any ∷ [])) (writes 0 0x0F ∷ writes 1 0x0E ∷ Done -2 2 ∷ [])
-    ∷ runs joint (Accepted 1 2 1) (0xAF ∷ 0x5E ∷ []) (whole_read 0 (any ∷ any ∷ [])) (reads 0 ∷ reads 1 ∷ Done -2 2 ∷ [])
-    ∷ runs nibbles (Accepted 1 1 2) (0xA5 ∷ []) (whole_write 0 (pos 3) (any ∷ []) ++ whole_read 1 (any ∷ [])) (writes 0 0xA3 ∷ Done (pos 3) 1 ∷ reads 0 ∷ Done (pos 10) 1 ∷ [])
-    ∷ loads (deep 16) (Accepted 1 1 1)
-    ∷ loads (deep 17) (Refused 5 59)
-    ∷ loads (many 64) (Accepted 1 64 0)
-    ∷ loads (many 65) (Refused 5 2976)
+    ∷ loads (sharing "1..*****" "*00.0000") (refused 10 75)
+    ∷ loads (bytes "device d(b:bit[8] port){register p=b,mask '1*******':bit[8];register q=b,mask '0*******':bit[8];}") (refused 10 69)
+    ∷ runs joint (accepted 1 2 1) (0 ∷ 0 ∷ []) (whole_write 0 -2 (any ∷ any ∷ [])) (writes 0 0x0F ∷ writes 1 0x0E ∷ Done -2 2 ∷ [])
+    ∷ runs joint (accepted 1 2 1) (0xAF ∷ 0x5E ∷ []) (whole_read 0 (any ∷ any ∷ [])) (reads 0 ∷ reads 1 ∷ Done -2 2 ∷ [])
+    ∷ runs nibbles (accepted 1 1 2) (0xA5 ∷ []) (whole_write 0 (pos 3) (any ∷ []) ++ whole_read 1 (any ∷ [])) (writes 0 0xA3 ∷ Done (pos 3) 1 ∷ reads 0 ∷ Done (pos 10) 1 ∷ [])
+    ∷ loads (deep 16) (accepted 1 1 1)
+    ∷ loads (deep 17) (refused 5 59)
+    ∷ loads (many 64) (accepted 1 64 0)
+    ∷ loads (many 65) (refused 5 2976)
     ∷ []
 
 -- ── the claim ──

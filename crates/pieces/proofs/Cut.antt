@@ -7,10 +7,9 @@ use native.Mathlib.Omega.{arith}
 use lib.ListN.{length, length-append, replicate}
 use borrow.Author.Tests.{ltb-true, lt-ltb}
 use Rattle.tables.specs.View.{Tables}
-use Rattle.loader.specs.declared.whole.Verdict.TheVariants as verdict
+use Rattle.loader.specs.Verdict.{refused}
 use Rattle.loader.specs.Load.{lent_as, is_short, is_long, load_of}
-use Rattle.pieces.specs.declared.Reply.TheVariants.{More, Refused}
-use Rattle.pieces.specs.Pieces.{Held, held_as, is_short_for, piece_of, end_of}
+use Rattle.pieces.specs.Pieces.{more, stopped, Held, held_as, is_short_for, piece_of, end_of}
 use Rattle.pieces.specs.Claim.{joined, after, EveryCut, EveryShort}
 use Rattle.pieces.proofs.Holding.{Holds, at_first, parts, after-piece, replies, ends, starts-afresh}
 
@@ -29,7 +28,7 @@ unfolding is_long
 still-long text piece e = lt-ltb 8192 (length (text ++ piece)) (omega (arith, length-append text piece, ltb-true 8192 (length text) e))
 
 -- a text over the limit is refused by 2, and the tables stay
-loads-long : (t : Tables) (size : ℕ) (text : List ℕ) → is_short_for t size ≡ false → is_long text ≡ true → load_of text t ≡ record { verdict = verdict.Refused 2 0; tables = t }
+loads-long : (t : Tables) (size : ℕ) (text : List ℕ) → is_short_for t size ≡ false → is_long text ≡ true → load_of text t ≡ record { verdict = refused 2 0; tables = t }
 unfolding load_of
 loads-long t size text long e = rw ((parts t size long).0, e)
 
@@ -43,7 +42,7 @@ however_cut t store pieces long =
     record {
       whole = end;
       answers = replies t size h (joined pieces) long held;
-      repeated = λ over piece. replies t size h (joined pieces) long held piece ∙ ap (λ b. cond b (Refused 2 0) More) (still-long (joined pieces) piece over);
+      repeated = λ over piece. replies t size h (joined pieces) long held piece ∙ ap (λ b. cond b (stopped 2 0) more) (still-long (joined pieces) piece over);
       by_the_end = λ over. end ∙ loads-long t size (joined pieces) long over;
       afresh = starts-afresh t size h (joined pieces) long held;
       as_long = held.as_long;

@@ -12,8 +12,7 @@ use lib.Seq.{length-take-le, take_at}
 use borrow.Author.Tests.{ltb-true, ltb-false, le-ltb, lt-ltb}
 use Rattle.tables.specs.View.{Tables}
 use Rattle.loader.specs.Load.{is_short, is_long, load_of}
-use Rattle.pieces.specs.declared.Reply.TheVariants.{More, Refused}
-use Rattle.pieces.specs.Pieces.{Held, held_as, is_short_for, passes, laid_at, piece_of, end_of}
+use Rattle.pieces.specs.Pieces.{more, stopped, Held, held_as, is_short_for, passes, laid_at, piece_of, end_of}
 
 -- the text so far stands in the store; or it is over the limit, and the number says so
 abbrev pub Stands : Held → List ℕ → Type 0
@@ -80,11 +79,11 @@ module _ (t : Tables) (size : ℕ) (h : Held) (text : List ℕ) (long : is_short
           })
 
   -- and is answered by whether the text, with it, is over the limit
-  pub replies : (piece : List ℕ) → (piece_of t h piece).reply ≡ cond (is_long (text ++ piece)) (Refused 2 0) More
+  pub replies : (piece : List ℕ) → (piece_of t h piece).reply ≡ cond (is_long (text ++ piece)) (stopped 2 0) more
   unfolding piece_of passes is_long
   replies piece = go (ltb 8192 (h.taken + length piece)) refl held.which
     where
-      go : (b : Bool) → ltb 8192 (h.taken + length piece) ≡ b → (Stands h text ⊎ Over h text) → (piece_of t h piece).reply ≡ cond (is_long (text ++ piece)) (Refused 2 0) More
+      go : (b : Bool) → ltb 8192 (h.taken + length piece) ≡ b → (Stands h text ⊎ Over h text) → (piece_of t h piece).reply ≡ cond (is_long (text ++ piece)) (stopped 2 0) more
       go true e (inl s) = rw (here, e, length-append text piece, ← s.0, e)
       go false e (inl s) = rw (here, e, length-append text piece, ← s.0, e)
       go true e (inr o) = rw (here, e, length-append text piece, lt-ltb 8192 (length text + length piece) (omega (arith, o.1)))

@@ -2,11 +2,9 @@
 -- answer who keeps the text itself, however long, and no store and no number. Assumes nothing.
 use Rattle.std.specs.Prelude.{ℕ, ◌≡◌, cond, List, [], ◌∷◌, ◌++◌, length}
 use Rattle.tables.specs.View.{Tables}
-use Rattle.loader.specs.declared.whole.Verdict.TheVariants as verdict
+use Rattle.loader.specs.Verdict.{refused}
 use Rattle.loader.specs.Load.{Loaded, is_long, load_of}
-use Rattle.pieces.specs.declared.Reply.{Reply}
-use Rattle.pieces.specs.declared.Reply.TheVariants.{More, Refused}
-use Rattle.pieces.specs.Pieces.{Held, held_as, is_short_for, piece_of, end_of}
+use Rattle.pieces.specs.Pieces.{Reply, more, stopped, Held, held_as, is_short_for, piece_of, end_of}
 
 pub data Call : Type 0 where
   Piece : Tables → List ℕ → Call
@@ -26,10 +24,10 @@ answered h (End t ∷ calls) = Judged (end_of t h).loaded ∷ answered (held_as 
 -- ── the text itself, for a store of this size ──
 
 abbrev pub reply_due : Tables → ℕ → List ℕ → List ℕ → Reply
-reply_due t size text piece = cond (is_short_for t size) (Refused 1 0) (cond (is_long (text ++ piece)) (Refused 2 0) More)
+reply_due t size text piece = cond (is_short_for t size) (stopped 1 0) (cond (is_long (text ++ piece)) (stopped 2 0) more)
 
 abbrev pub verdict_due : Tables → ℕ → List ℕ → Loaded
-verdict_due t size text = cond (is_short_for t size) (record { verdict = verdict.Refused 1 0; tables = t }) (load_of text t)
+verdict_due t size text = cond (is_short_for t size) (record { verdict = refused 1 0; tables = t }) (load_of text t)
 
 -- a call that is refused by 1 leaves the text as it was
 abbrev pub text_after : Tables → ℕ → List ℕ → List ℕ → List ℕ

@@ -1,11 +1,10 @@
 -- Descriptions that arrive in pieces: document 02, No. 12. The two calls.
 -- Assumes nothing.
-use Rattle.std.specs.Prelude.{ℕ, ◌+◌, Bool, cond, ◌||◌, List, ◌++◌, ltb, length, take, drop}
+use Rattle.std.specs.Prelude.{ℕ, ◌+◌, Result, Ok, Err, Bool, cond, ◌||◌, List, ◌++◌, ltb, length, take, drop}
 use Rattle.tables.specs.View.{Tables}
-use Rattle.loader.specs.declared.whole.Verdict.TheVariants as verdict
+use Rattle.loader.specs.declared.verdict.Refused.{Refused}
+use Rattle.loader.specs.Verdict.{refused}
 use Rattle.loader.specs.Load.{Loaded, loaded, is_short, load_of}
-use Rattle.pieces.specs.declared.Reply.{Reply}
-use Rattle.pieces.specs.declared.Reply.TheVariants.{More, Refused}
 use Rattle.pieces.specs.declared.Taken.{Taken}
 use Rattle.pieces.specs.declared.Ended.{Ended}
 
@@ -14,6 +13,16 @@ use Rattle.pieces.specs.declared.Ended.{Ended}
 pub record Held : Type 0 where
   pub store : List ℕ
   pub taken : ℕ
+
+-- the reply to a piece: more, or a refusal by a number and with a place
+abbrev pub Reply : Type 0
+Reply = Result Unit Refused
+
+abbrev pub more : Reply
+more = Ok tt
+
+abbrev pub stopped : ℕ → ℕ → Reply
+stopped number place = Err (record { number = number; place = place })
 
 -- what a call with a piece comes to
 pub record Took : Type 0 where
@@ -52,14 +61,14 @@ laid_at store taken piece = take taken store ++ piece ++ drop (taken + length pi
 -- "more" or refusal 2"; "3 to 16 wait for the end call". It is lent the tables for 1 alone
 unfoldable pub piece_of : Tables → Held → List ℕ → Took
 piece_of t h piece =
-    cond (is_short_for t (length h.store)) (record { reply = Refused 1 0; held = h })
-    (cond (passes h piece) (record { reply = Refused 2 0; held = held_as h.store 8193 })
-    (record { reply = More; held = held_as (laid_at h.store h.taken piece) (h.taken + length piece) }))
+    cond (is_short_for t (length h.store)) (record { reply = stopped 1 0; held = h })
+    (cond (passes h piece) (record { reply = stopped 2 0; held = held_as h.store 8193 })
+    (record { reply = more; held = held_as (laid_at h.store h.taken piece) (h.taken + length piece) }))
 
 -- ENDING. "Only the end call touches the tables", and it "starts afresh": nothing is taken then. Refused by 1 it
 -- changes nothing
 unfoldable pub end_of : Tables → Held → Closed
 end_of t h =
-    cond (is_short_for t (length h.store)) (record { loaded = record { verdict = verdict.Refused 1 0; tables = t }; taken = h.taken })
-    (cond (ltb 8192 h.taken) (record { loaded = record { verdict = verdict.Refused 2 0; tables = t }; taken = 0 })
+    cond (is_short_for t (length h.store)) (record { loaded = record { verdict = refused 1 0; tables = t }; taken = h.taken })
+    (cond (ltb 8192 h.taken) (record { loaded = record { verdict = refused 2 0; tables = t }; taken = 0 })
     (record { loaded = load_of (take h.taken h.store) t; taken = 0 }))

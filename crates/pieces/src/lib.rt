@@ -3,60 +3,32 @@
 // the limit says that the text was too long, so every number that a caller lends has a meaning.
 #![tactic(auto)]
 
-ghost use Rattle.std.specs.Prelude.{◌≡◌, ◌+◌, ◌≤◌, ltb, length};
+ghost use Rattle.std.specs.Prelude.{◌≡◌, length};
 ghost use Rattle.loader.specs.Load.{lent_as};
-ghost use Rattle.pieces.specs.Pieces.{is_short_for, laid_at, held_as, took_as, ended_as, piece_of, end_of};
+ghost use Rattle.pieces.specs.Pieces.{is_short_for, held_as, took_as, ended_as, piece_of, end_of};
 
-use loader::Verdict;
+use loader::{Counts, LONG, Refused, SHORT};
 
-// Before the end call: more, or the number of a refusal and its place, which is 0.
-#[derive(Clone, Copy)]
-pub enum Reply {
-    More,
-    Refused(u32, usize),
-}
-
-// The reply to a piece, and how many bytes of the store are then taken.
-#[derive(Clone, Copy)]
+// The reply to a piece, and how many bytes of the store are then taken. Before the end call it is more, or a refusal
+// whose place is 0.
+#[derive(Clone, Copy, PartialEq, Eq)]
 pub struct Taken {
-    pub reply: Reply,
+    pub reply: Result<(), Refused>,
     pub taken: usize,
 }
 
 // The verdict on all pieces, and how many bytes of the store are then taken: none, where the text was judged.
-#[derive(Clone, Copy)]
+#[derive(Clone, Copy, PartialEq, Eq)]
 pub struct Ended {
-    pub verdict: Verdict,
+    pub verdict: Result<Counts, Refused>,
     pub taken: usize,
 }
 
 // 1: the store or a table is shorter than its stated size.
-fn is_short(store: usize, parameters: &[u32], registers: &[u32], variables: &[u32]) -> bool
-    ensures { result ≡ is_short_for (lent_as parameters.now registers.now variables.now) store }
+fn is_short(store: &[u8], parameters: &[u32], registers: &[u32], variables: &[u32]) -> bool
+    ensures { result ≡ is_short_for (lent_as parameters.now registers.now variables.now) (length store.now) }
 {
-    (parameters.len() < 577) | (registers.len() < 961) | (variables.len() < 7553) | (store < 8192)
-}
-
-// Whether so many bytes more pass the limit. Their sum may be more than a number can hold.
-fn passes(taken: usize, more: usize) -> bool
-    ensures { result ≡ ltb 8192 (taken + more) }
-{
-    if 8192 < taken {
-        return true;
-    }
-    8192 - taken < more
-}
-
-// Lays a piece behind what is taken.
-fn lay(store: &mut [u8], taken: usize, piece: &[u8])
-    requires { taken + length piece.now ≤ length store.old }
-    ensures { store.new ≡ laid_at store.old taken piece.now }
-{
-    let mut i: usize = 0;
-    while i < piece.len() {
-        store[taken + i] = piece[i];
-        i += 1;
-    }
+    loader::is_short(parameters, registers, variables) || store.len() < 8192
 }
 
 // Takes a piece of any length. The tables are lent for their lengths alone.
@@ -72,22 +44,23 @@ pub fn take_piece(
         (lent_as parameters.now registers.now variables.now)
         (held_as store.old taken) piece.now }
 {
-    if is_short(store.len(), parameters, registers, variables) {
+    if is_short(store, parameters, registers, variables) {
         return Taken {
-            reply: Reply::Refused(1, 0),
+            reply: Err(SHORT),
             taken,
         };
     }
-    if passes(taken, piece.len()) {
+    if 8192 < taken.saturating_add(piece.len()) {
         return Taken {
-            reply: Reply::Refused(2, 0),
+            reply: Err(LONG),
             taken: 8193,
         };
     }
-    lay(store, taken, piece);
+    let end = taken + piece.len();
+    store[taken..end].copy_from_slice(piece);
     Taken {
-        reply: Reply::More,
-        taken: taken + piece.len(),
+        reply: Ok(()),
+        taken: end,
     }
 }
 
@@ -104,15 +77,15 @@ pub fn end_pieces(
         (lent_as parameters.old registers.old variables.old)
         (held_as store.now taken) }
 {
-    if is_short(store.len(), parameters, registers, variables) {
+    if is_short(store, parameters, registers, variables) {
         return Ended {
-            verdict: Verdict::Refused(1, 0),
+            verdict: Err(SHORT),
             taken,
         };
     }
     if 8192 < taken {
         return Ended {
-            verdict: Verdict::Refused(2, 0),
+            verdict: Err(LONG),
             taken: 0,
         };
     }

@@ -3,38 +3,23 @@
 // behind the last whole record are passed over.
 #![tactic(auto)]
 
-ghost use Rattle.std.specs.Prelude.{◌≡◌, ◌≤◌, ◌+◌, ◌<◌, ◌^◌, length, get_or};
+ghost use Rattle.std.specs.Prelude.{◌≡◌, ◌+◌, ◌<◌, ◌^◌, get_or};
 ghost use Rattle.readings.specs.Records.{four_at, eight_at, line_at};
 
 use std::io;
-use units::Line;
+use units::Unconverted;
 
 const RECORD: usize = 20;
 
 // So many records are read at a time.
 const BLOCK: usize = 20480;
 
-fn say(out: &mut impl io::Write, words: &[u8]) -> io::Result<()> {
-    out.write_all(words)
-}
-
-fn tell_bits(out: &mut impl io::Write, bits: u64) -> io::Result<()> {
-    let digits = script::digits_of(bits);
-    say(out, &digits)?;
-    say(out, b"\n")
-}
-
-fn tell_refusal(out: &mut impl io::Write, number: usize) -> io::Result<()> {
-    say(out, b"refused ")?;
-    write!(out, "{number}")?;
-    say(out, b"\n")
-}
-
-fn tell(out: &mut impl io::Write, line: Line) -> io::Result<()> {
+fn tell(out: &mut impl io::Write, line: Result<u64, Unconverted>) -> io::Result<()> {
     match line {
-        Line::Bits(bits) => tell_bits(out, bits),
-        Line::Refusal(number) => tell_refusal(out, number),
+        Ok(bits) => out.write_all(&script::digits_of(bits))?,
+        Err(why) => write!(out, "refused {}", why.number())?,
     }
+    out.write_all(b"\n")
 }
 
 // The byte at a place, and 0 past the end.
@@ -42,13 +27,10 @@ fn byte(input: &[u8], at: usize) -> u64
     ensures is { result ≡ get_or input.now at 0 }
     ensures small { result < 256 }
 {
-    if at < input.len() {
-        input[at] as u64
-    } else {
-        0
-    }
+    u64::from(input.get(at).copied().unwrap_or(0))
 }
 
+#[tactic(auto, unfolding(crate::specs::Records::four_at))]
 fn four(input: &[u8], at: usize) -> u64
     requires { at + 4 < 2 ^ 64 }
     ensures is { result ≡ four_at input.now at }
@@ -61,6 +43,7 @@ fn four(input: &[u8], at: usize) -> u64
     a + 256 * b + 65536 * c + 16777216 * d
 }
 
+#[tactic(auto, unfolding(crate::specs::Records::eight_at))]
 fn eight(input: &[u8], at: usize) -> u64
     requires { at + 8 < 2 ^ 64 }
     ensures { result ≡ eight_at input.now at }
@@ -70,30 +53,23 @@ fn eight(input: &[u8], at: usize) -> u64
     low + 4294967296 * high
 }
 
-fn reading_of(four: u64) -> u32
-    requires { four < 2 ^ 32 }
-    ensures { result ≡ four }
-{
-    four as u32
-}
-
 // What the record at a place comes to.
-fn line_at(input: &[u8], at: usize) -> Line
+#[tactic(auto, unfolding(crate::specs::Records::line_at))]
+fn line_at(input: &[u8], at: usize) -> Result<u64, Unconverted>
     requires { at + 20 < 2 ^ 64 }
     ensures { result ≡ line_at input.now at }
 {
-    let gain = eight(input, at);
-    let offset = eight(input, at + 8);
-    let reading = reading_of(four(input, at + 16));
-    units::line_of(gain, offset, reading)
+    units::line_of(
+        eight(input, at),
+        eight(input, at + 8),
+        four(input, at + 16) as u32,
+    )
 }
 
-// One record at a time, as long as a whole one is left.
+// The whole records, one at a time.
 fn tell_all(out: &mut impl io::Write, input: &[u8]) -> io::Result<()> {
-    let mut at: usize = 0;
-    while RECORD <= input.len() - at {
-        tell(out, line_at(input, at))?;
-        at += RECORD;
+    for i in 0..input.len() / RECORD {
+        tell(out, line_at(input, i * RECORD))?;
     }
     Ok(())
 }
@@ -101,14 +77,12 @@ fn tell_all(out: &mut impl io::Write, input: &[u8]) -> io::Result<()> {
 // Block by block, until one is not full. More blocks than this no input has.
 fn main(rt: HostRuntime) -> io::Result<()> {
     let mut block = [0u8; BLOCK];
-    let mut blocks: u64 = 18446744073709551615;
-    while 0 < blocks {
+    for _ in 0..u64::MAX {
         let n = streams::read_full(&mut rt.stdin(), &mut block)?;
         tell_all(&mut rt.stdout(), &block[..n])?;
         if n < BLOCK {
-            return Ok(());
+            break;
         }
-        blocks -= 1;
     }
     Ok(())
 }

@@ -5,7 +5,7 @@ use Prim.Native.Nat.{ℕ, ◌-◌, ◌^◌}
 use lib.IntN.{negsuc}
 use Rattle.token.specs.Bytes.{bytes, same, run_from, begins, within}
 use Rattle.token.specs.Number.{digit_of, is_digit}
-use Rattle.script.specs.Words.{test_of, word_of, rest_of, ahead, words_up_to, words_of}
+use Rattle.script.specs.Words.{word_of, rest_of, ahead, words_up_to, words_of}
 use Rattle.script.specs.Numbers.{figures_from, figures, number_of, natural, negated, value_of}
 use Rattle.script.specs.Patterns.{pattern_of}
 use Rattle.units.specs.Lines.{calibration_of}
@@ -13,7 +13,7 @@ use Rattle.station.specs.declared.Operation.TheVariants.{Reading}
 use Rattle.replay.specs.declared.call.Request.TheVariants.{Open, Write, Calibrated}
 use Rattle.replay.specs.declared.call.Call.{Call}
 use Rattle.replay.specs.declared.call.Call.TheVariants.{Nothing, Station, Lookup, LendMarks, Hold, Unknown}
-use Rattle.replay.specs.Fields.{is_none, only_word, below_of, is_some, count_from}
+use Rattle.replay.specs.Fields.{is_none, only_word, below_of, count_from}
 use Rattle.replay.specs.Calls.{chosen, bare_of, with_number, lookup_of, writing, write_of, calibrating, calibrated_of, is_all_lem, amount_of, lent, lend_of, in_hand_lem, held, held_of, holding, hold_of, call_by, is_skipped, call_of}
 
 abbrev asked : List ℕ → Call
@@ -43,5 +43,5 @@ pub lines :
     ∷ Station (Calibrated 2 (calibration_of 0x3FE0000000000000 0x4090000000000000))
     ∷ Unknown
     ∷ []
-unfolding same run_from begins within digit_of is_digit test_of word_of rest_of ahead words_up_to words_of figures_from figures number_of natural negated value_of is_none only_word below_of is_some count_from chosen bare_of with_number lookup_of writing write_of calibrating calibrated_of pattern_of is_all_lem amount_of lent lend_of in_hand_lem held held_of holding hold_of call_by is_skipped call_of
+unfolding same run_from begins within digit_of is_digit word_of rest_of ahead words_up_to words_of figures_from figures number_of natural negated value_of is_none only_word below_of count_from chosen bare_of with_number lookup_of writing write_of calibrating calibrated_of pattern_of is_all_lem amount_of lent lend_of in_hand_lem held held_of holding hold_of call_by is_skipped call_of
 lines = refl

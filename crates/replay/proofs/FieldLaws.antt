@@ -1,28 +1,25 @@
 -- The words behind the first one of a line, as the code takes them one by one. Assumes nothing.
-use mathlib.Core.Bool.{Bool, true, false, cond, false≢true}
+use mathlib.Core.Bool.{true, false, cond, false≢true}
 use mathlib.Core.List.{List, [], ◌∷◌}
 use mathlib.Core.Path.{◌≡◌, refl, sym, ap, ◌∙◌}
-use Prim.Native.Nat.{ℕ, zero, suc, ◌+◌, ◌≤◌, ◌<◌}
+use Prim.Native.Nat.{ℕ, zero, suc, ◌+◌, ◌≤◌, ◌<◌, ◌^◌}
 use native.Mathlib.Omega.{arith}
 use lib.Dec.{eqb, ltb}
-use lib.ListN.{length, length-set}
-use borrow.Author.Tests.{ltb-true, ne_eqb}
+use lib.ListN.{length}
+use borrow.Author.Tests.{lt-ltb, le-ltb, ne_eqb}
 use Rattle.token.specs.Bytes.{begins}
 use Rattle.script.specs.Words.{word_of, rest_of, ahead, words_of}
-use Rattle.script.specs.Numbers.{figures, number_of, natural, value_of}
+use Rattle.script.specs.Numbers.{figures, number_of}
 use Rattle.script.proofs.WordLaws.{words-first, rest-shorter}
-use Rattle.script.specs.declared.numbers.Number.{Number}
-use Rattle.script.specs.declared.numbers.Number.TheVariants.{Is, Nothing}
-use Rattle.script.specs.declared.numbers.Value.TheVariants as value
-use Rattle.replay.specs.Fields.{is_none, only_word, below_of, is_some, carried_of, count_from, or_zero, lent_number, stored, laid}
+use Rattle.std.specs.Prelude.{Some, None, Ok, Err, not, ◌&&◌}
+use Rattle.std.specs.Prelude.{Result, OkIff}
+use Rattle.std.specs.Result.{result_ok}
+use Rattle.bits.specs.Widths.{widest}
+use Rattle.replay.specs.Fields.{is_none, only_word, below_of, carried_of, count_from, lent_number, stored, laid}
 
-pub no_number : number_of [] ≡ Nothing
+pub no_number : number_of [] ≡ None
 unfolding number_of figures begins
 no_number = refl
-
-pub no_value : value_of [] ≡ value.Nothing
-unfolding value_of natural number_of figures begins
-no_value = refl
 
 -- a word that is none has nothing behind it
 ahead_none : (word : List ℕ) (more : List (List ℕ)) → eqb (length word) 0 ≡ is_none (ahead word more)
@@ -31,16 +28,16 @@ ahead_none [] more = refl
 ahead_none (x ∷ word) more = ne_eqb (length (x ∷ word)) 0 (λ e. omega arith)
 
 -- a word with nothing behind it is the only one, and one with more behind it is not
-alone : (word : List ℕ) (more : List (List ℕ)) → is_none more ≡ true → word ≡ only_word (ahead word more)
+alone : (word : List ℕ) (more : List (List ℕ)) → (not (eqb (length word) 0) && is_none more) ≡ true → Some word ≡ only_word (ahead word more)
 unfolding ahead is_none only_word
-alone [] more h = refl
+alone [] more h = absurd (false≢true h)
 alone (x ∷ word) [] h = refl
-alone (x ∷ word) (next ∷ more) h = absurd (false≢true h)
+alone (x ∷ word) (next ∷ more) h = absurd (false≢true (rw (ne_eqb (length (x ∷ word)) 0 (λ e. omega arith)) at h))
 
-not-alone : (word : List ℕ) (more : List (List ℕ)) → is_none more ≡ false → [] ≡ only_word (ahead word more)
+not-alone : (word : List ℕ) (more : List (List ℕ)) → (not (eqb (length word) 0) && is_none more) ≡ false → None ≡ only_word (ahead word more)
 unfolding ahead is_none only_word
 not-alone [] more h = refl
-not-alone (x ∷ word) [] h = absurd (false≢true (sym h))
+not-alone (x ∷ word) [] h = absurd (false≢true (sym (rw (ne_eqb (length (x ∷ word)) 0 (λ e. omega arith)) at h)))
 not-alone (x ∷ word) (next ∷ more) h = refl
 
 -- a line, its first word and what follows it, as the code cuts them out
@@ -52,76 +49,83 @@ module _ (line first : List ℕ) (is-first : first ≡ word_of line) where
   bare-so = ahead_none first (words_of (rest_of line)) ∙ ap is_none (sym (split (rest_of line) refl))
 
 -- the only word of a line
-module _ (line tail : List ℕ) (is-rest : tail ≡ rest_of line) where
-  pub only_so : (first : List ℕ) → first ≡ word_of line → is_none (words_of tail) ≡ true → first ≡ only_word (words_of line)
-  only_so first is-first none = alone first (words_of tail) none ∙ ap only_word (sym (split line first is-first tail is-rest))
+module _ (line first : List ℕ) (is-first : first ≡ word_of line) (tail : List ℕ) (is-rest : tail ≡ rest_of line) where
+  pub only_so : (not (eqb (length first) 0) && is_none (words_of tail)) ≡ true → Some first ≡ only_word (words_of line)
+  only_so h = alone first (words_of tail) h ∙ ap only_word (sym (split line first is-first tail is-rest))
 
-  pub only-not : is_none (words_of tail) ≡ false → [] ≡ only_word (words_of line)
-  only-not more = not-alone (word_of line) (words_of tail) more ∙ ap only_word (sym (split line (word_of line) refl tail is-rest))
+  pub only-not : (not (eqb (length first) 0) && is_none (words_of tail)) ≡ false → None ≡ only_word (words_of line)
+  only-not h = not-alone first (words_of tail) h ∙ ap only_word (sym (split line first is-first tail is-rest))
 
--- a number that is below a limit is
-below_less : (limit : ℕ) (n : Number) (b : ℕ) → below_of limit n ≡ Is b → b < limit
+-- the number for a register that a word is, tried as one of 32 bits
+pub carried-none : (word : List ℕ) → None ≡ number_of word → None ≡ carried_of word
 unfolding below_of
-below_less limit (Is m) b e = go (ltb m limit) refl e
-  where
-    go : (less : Bool) → ltb m limit ≡ less → cond less (Is m) Nothing ≡ Is b → b < limit
-    go true t e' = let same_number : m ≡ b = cc in omega (arith, ltb-true m limit t)
-    go false t e' = let z : ◌≡◌ {A = ℕ} 0 1 = cc in omega arith
-below_less limit Nothing b e = let z : ◌≡◌ {A = ℕ} 0 1 = cc in omega arith
+carried-none word none = rw (sym none, below_of)
 
-pub below-small : (limit : ℕ) (n number : Number) → 0 < limit → number ≡ below_of limit n → or_zero number < limit
-unfolding or_zero
-below-small limit n (Is b) some e = below_less limit n b (sym e)
-below-small limit n Nothing some e = some
+pub carried-some :
+    {E : Type 0} (word : List ℕ) (n : ℕ) (read : Result ℕ E) → Some n ≡ number_of word
+    → OkIff read (n < 2 ^ widest) n → result_ok read ≡ carried_of word
+unfolding below_of
+carried-some {E} word n read some fits = rw (sym some, below_of) (go read fits)
+  where
+    go : (tried : Result ℕ E) → OkIff tried (n < 2 ^ widest) n → result_ok tried ≡ cond (ltb n (2 ^ widest)) (Some n) None
+    go (Ok x) h = rw (lt-ltb _ _ h.0) (ap Some h.1)
+    go (Err e) h = rw (le-ltb n (2 ^ widest) (omega (arith, h)))
 
 -- ── the numbers of an opening, word by word ──
 
-module _ (line first : List ℕ) (is-first : first ≡ word_of line) where
-  pub count-end : (n : ℕ) → length first ≡ 0 → count_from (words_of line) n ≡ Is n
-  unfolding ahead count_from
-  count-end n h = ap (λ (words : List (List ℕ)). count_from words n) (split line first is-first (rest_of line) refl) ∙ go first h
+module _ (line : List ℕ) where
+  pub count-end : (n : ℕ) → is_none (words_of line) ≡ true → Some n ≡ count_from (words_of line) n
+  unfolding count_from is_none
+  count-end n h = go (words_of line) h
     where
-      go : (word : List ℕ) → length word ≡ 0 → count_from (ahead word (words_of (rest_of line))) n ≡ Is n
+      go : (words : List (List ℕ)) → is_none words ≡ true → Some n ≡ count_from words n
       go [] e = refl
-      go (x ∷ word) e = absurd (omega arith)
+      go (word ∷ more) e = absurd (false≢true e)
 
-  pub laid_end : (at : ℕ) (bytes : List ℕ) → length first ≡ 0 → laid (words_of line) at bytes ≡ bytes
-  unfolding ahead laid
-  laid_end at bytes h = ap (λ (words : List (List ℕ)). laid words at bytes) (split line first is-first (rest_of line) refl) ∙ go first h
+  pub laid_end : (at : ℕ) (numbers : List ℕ) → is_none (words_of line) ≡ true → numbers ≡ laid (words_of line) at numbers
+  unfolding laid is_none
+  laid_end at numbers h = go (words_of line) h
     where
-      go : (word : List ℕ) → length word ≡ 0 → laid (ahead word (words_of (rest_of line))) at bytes ≡ bytes
+      go : (words : List (List ℕ)) → is_none words ≡ true → numbers ≡ laid words at numbers
       go [] e = refl
-      go (x ∷ word) e = absurd (omega arith)
+      go (word ∷ more) e = absurd (false≢true e)
 
-  module _ (some : length first ≡ 0 → ⊥) where
+  module _ (some : is_none (words_of line) ≡ false) (first : List ℕ) (is-first : first ≡ word_of line) where
     words_more : (tail : List ℕ) → tail ≡ rest_of line → words_of line ≡ first ∷ words_of tail
-    unfolding ahead
-    words_more tail is-rest = split line first is-first tail is-rest ∙ go first some
+    unfolding ahead is_none
+    words_more tail is-rest = whole ∙ go first (sym (ap is_none whole) ∙ some)
       where
-        go : (word : List ℕ) → (length word ≡ 0 → ⊥) → ahead word (words_of tail) ≡ word ∷ words_of tail
-        go [] h = absurd (h refl)
+        whole : words_of line ≡ ahead first (words_of tail)
+        whole = split line first is-first tail is-rest
+
+        go : (word : List ℕ) → is_none (ahead word (words_of tail)) ≡ false → ahead word (words_of tail) ≡ word ∷ words_of tail
+        go [] h = absurd (false≢true (sym h))
         go (x ∷ word) h = refl
 
-    pub count-stops : (n : ℕ) → carried_of first ≡ Nothing → count_from (words_of line) n ≡ Nothing
-    unfolding count_from is_some
-    count-stops n none = rw (words_more (rest_of line) refl, count_from, none)
+    pub count-stops : (n : ℕ) → None ≡ carried_of first → None ≡ count_from (words_of line) n
+    unfolding count_from
+    count-stops n none = rw (words_more (rest_of line) refl, count_from, sym none)
 
     module _ (tail : List ℕ) (is-rest : tail ≡ rest_of line) where
-      pub count-on : (n b : ℕ) → carried_of first ≡ Is b → count_from (words_of line) n ≡ count_from (words_of tail) (n + 1)
-      unfolding count_from is_some
-      count-on n b a_byte = rw (words_more tail is-rest, count_from, a_byte)
+      pub count-on : (n b : ℕ) → Some b ≡ carried_of first → count_from (words_of line) n ≡ count_from (words_of tail) (n + 1)
+      unfolding count_from
+      count-on n b a_byte = rw (words_more tail is-rest, count_from, sym a_byte)
 
       pub laid_on :
-          (at : ℕ) (bytes : List ℕ) (b : ℕ) (after : List ℕ) → b ≡ lent_number first → after ≡ stored bytes at b
-          → laid (words_of line) at bytes ≡ laid (words_of tail) (at + 1) after
+          (at : ℕ) (numbers : List ℕ) (b : ℕ) (after : List ℕ) → b ≡ lent_number first → after ≡ stored numbers at b
+          → laid (words_of line) at numbers ≡ laid (words_of tail) (at + 1) after
       unfolding laid
-      laid_on at bytes b after is_byte_lem is-after = rw (words_more tail is-rest, laid, is-after, is_byte_lem)
+      laid_on at numbers b after is_byte_lem is-after = rw (words_more tail is-rest, laid, is-after, is_byte_lem)
 
       pub tail-shorter : length tail < length line
-      tail-shorter = rw is-rest (rest-shorter line (rw is-first at (go first some)))
+      unfolding ahead is_none
+      tail-shorter = rw is-rest (rest-shorter line (rw is-first at (go first (sym (ap is_none whole) ∙ some))))
         where
-          go : (word : List ℕ) → (length word ≡ 0 → ⊥) → 0 < length word
-          go [] h = absurd (h refl)
+          whole : words_of line ≡ ahead first (words_of tail)
+          whole = split line first is-first tail is-rest
+
+          go : (word : List ℕ) → is_none (ahead word (words_of tail)) ≡ false → 0 < length word
+          go [] h = absurd (false≢true (sym h))
           go (x ∷ word) h = omega arith
 
 -- nothing is stored past the end
@@ -130,5 +134,9 @@ stored_past [] at b h = refl
 stored_past (x ∷ bytes) zero b h = absurd (omega arith)
 stored_past (x ∷ bytes) (suc at) b h = ap (λ (rest : List ℕ). x ∷ rest) (stored_past bytes at b (omega arith))
 
-pub stored-length : (bytes after : List ℕ) (at b : ℕ) → after ≡ stored bytes at b → length after ≡ length bytes
-stored-length bytes after at b e = ap length e ∙ length-set bytes at b
+-- and past the end nothing is laid
+pub laid_past : (words : List (List ℕ)) (at : ℕ) (numbers : List ℕ) → length numbers ≤ at → numbers ≡ laid words at numbers
+unfolding laid
+laid_past [] at numbers h = refl
+laid_past (word ∷ more) at numbers h =
+    laid_past more (at + 1) numbers (omega arith) ∙ ap (laid more (at + 1)) (stored_past numbers at (lent_number word) h)

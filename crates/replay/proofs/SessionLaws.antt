@@ -1,28 +1,18 @@
 -- What a line leaves and answers, from what the station's call does. Assumes nothing.
 use mathlib.Core.Bool.{Bool, ◌||◌}
 use mathlib.Core.List.{List, ◌++◌}
-use mathlib.Core.Path.{◌≡◌, refl, sym, ap, subst, ◌∙◌}
-use Rattle.calibrated.specs.declared.InUnits.TheVariants.{Same}
+use mathlib.Core.Path.{◌≡◌, ◌∙◌}
 use Prim.Native.Nat.{ℕ}
 use lib.ListN.{length, take, drop}
 use Rattle.tables.specs.Words.{word_at}
 use Rattle.tables.specs.View.{Tables}
-use Rattle.station.specs.Promise.{lent, Meets}
-use Rattle.station.specs.declared.Outcome.{Outcome}
+use Rattle.station.specs.Promise.{lent}
 use Rattle.calibrated.specs.declared.OutcomeInUnits.{OutcomeInUnits}
 use Rattle.calibrated.specs.Readings.{MeetsInUnits}
-use Rattle.replay.specs.Scales.{plainly}
-use Rattle.station.specs.Calls.{Outcome as Came}
 use Rattle.replay.specs.declared.call.Request.{Request}
 use Rattle.replay.specs.declared.session.Session.{Session}
-use Rattle.replay.specs.declared.session.Reply.{Reply}
 use Rattle.replay.specs.declared.session.Turn.{Turn}
-use Rattle.replay.specs.Sessions.{turn_of, lent_of, is_opening, answered, told_to, After, Leaves, held_by, marked_by, asked_with, asked, unchanged}
-
-pub stays :
-    (kept marks : List ℕ) (session : Session) (reply : Reply) (turn : Turn) → turn ≡ turn_of session reply
-    → Leaves (unchanged kept marks session reply) kept marks turn
-stays kept marks session reply turn e = record { turn_is = e; kept-is = refl; marks-is = refl }
+use Rattle.replay.specs.Sessions.{lent_of, is_opening, answered, told_to, After, Leaves, held_by, marked_by, asked_with, asked}
 
 module _ (t : Tables) (power kept marks : List ℕ) (session : Session) (request : Request) where
   -- as much is lent as the code counts
@@ -58,17 +48,3 @@ module _ (t : Tables) (power kept marks : List ℕ) (session : Session) (request
         kept-is = rw meets.kept-is;
         marks-is = rw meets.marks-is;
       })
-
--- the station's outcome, told as it is
-pub plain-so : {o : Came} {kept marks : List ℕ} {outcome : Outcome} {given : OutcomeInUnits} → Meets o kept marks outcome → given ≡ plainly outcome
-    → MeetsInUnits (record { answer = Same o.answer; state = o.state }) kept marks given
-plain-so {o} {kept} {marks} {outcome} meets is =
-    subst (MeetsInUnits (record { answer = Same o.answer; state = o.state }) kept marks) (sym is)
-    (record {
-      answer-is = ap Same meets.answer-is;
-      number_is = meets.number_is;
-      reading-is = refl;
-      operation-is = meets.operation-is;
-      kept-is = meets.kept-is;
-      marks-is = meets.marks-is;
-    })

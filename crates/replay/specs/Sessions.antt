@@ -1,6 +1,6 @@
 -- A station over one text, from call to call: what each line is answered with, and what it leaves. `kept` is the
 -- record. How an answer is written is not stated here: the stored scripts hold it.
-use Rattle.std.specs.Prelude.{Bool, true, false, cond, ◌||◌, List, ◌++◌, ◌≡◌, ℕ, ◌-◌, ◌^◌, min, length, take, drop}
+use Rattle.std.specs.Prelude.{Bool, true, false, cond, ◌||◌, List, ◌++◌, ◌≡◌, ℕ, ◌-◌, ◌^◌, min, length, take, drop, Option, Some, None}
 use Rattle.tables.specs.Words.{word_at}
 use Rattle.tables.specs.View.{Tables, sound}
 use Rattle.station.specs.Calls.{State, opening, begin_read, begin_write, confirm, abandon, Outcome as Came}
@@ -20,15 +20,18 @@ use Rattle.replay.specs.declared.call.Call.TheVariants as call
 use Rattle.calibrated.specs.declared.InUnits.{InUnits}
 use Rattle.calibrated.specs.declared.InUnits.TheVariants.{Reading, Stopped as Over, Same}
 use Rattle.calibrated.specs.Readings.{Told, begin_in_units, confirm_in_units}
-use Rattle.replay.specs.Scales.{confirmed_in, scale_after}
-use Rattle.replay.specs.declared.session.Confirmed.{Confirmed}
-use Rattle.replay.specs.declared.session.Confirmed.TheVariants.{Byte, Other}
-use Rattle.replay.specs.declared.session.Scale.{Scale}
-use Rattle.replay.specs.declared.session.Scale.TheVariants.{Raw}
+use Rattle.units.specs.declared.Calibration.{Calibration}
+use Rattle.replay.specs.Scales.{Scale, confirmed_in, scale_after}
+use Rattle.station.specs.Standing.{tables_of}
+use Rattle.replay.specs.declared.session.Description.{Description}
 use Rattle.replay.specs.declared.session.Session.{Session}
 use Rattle.replay.specs.declared.session.Reply.{Reply}
 use Rattle.replay.specs.declared.session.Reply.TheVariants.{Silence, Answered, Looked, Stand, Lent, Held, Unknown}
 use Rattle.replay.specs.declared.session.Turn.{Turn}
+
+-- the tables of a description
+abbrev pub tables_in : Description → Tables
+tables_in d = tables_of d.parameters.now d.registers.now d.variables.now
 
 abbrev pub session_of : Bool → ℕ → ℕ → Operation → Scale → Session
 session_of opened held marked operation scale =
@@ -39,7 +42,7 @@ turn_of session reply = record { session = session; reply = reply }
 
 -- everything is lent, and nothing is in hand
 abbrev pub begun : Session
-begun = session_of false (2 ^ 64 - 1) (2 ^ 64 - 1) Idle Raw
+begun = session_of false (2 ^ 64 - 1) (2 ^ 64 - 1) Idle None
 
 -- how many bytes are lent of those that the tables need: no more than was said, and none before the first opening
 unfoldable pub lent_of : Bool → ℕ → ℕ → ℕ → ℕ
@@ -76,9 +79,9 @@ requested t power s Abandon = abandon sound t s
 requested t power s (Calibrated v c) = begin_in_units sound t s v c
 
 -- and what it is told as: a confirmation of a read in units goes by its call
-abbrev pub told_by : Tables → List ℕ → State → Request → Confirmed → Told
-told_by t power s request (Byte b c) = confirm_in_units sound t s b c
-told_by t power s request Other = record { answer = Same (requested t power s request).answer; state = (requested t power s request).state }
+abbrev pub told_by : Tables → List ℕ → State → Request → Option (ℕ × Calibration) → Told
+told_by t power s request (Some (b, c)) = confirm_in_units sound t s b c
+told_by t power s request None = record { answer = Same (requested t power s request).answer; state = (requested t power s request).state }
 
 abbrev pub told_to : Tables → List ℕ → State → Scale → Request → Told
 told_to t power s scale request = told_by t power s request (confirmed_in scale request)
@@ -142,7 +145,7 @@ performed t text line kept marks session (call.LendRecord k) =
 performed t text line kept marks session (call.LendMarks k) =
     unchanged kept marks (session_of session.opened session.bytes k session.operation session.scale) Lent
 performed t text line kept marks session (call.Hold operation) =
-    unchanged kept marks (session_of session.opened session.bytes session.marks operation Raw) Held
+    unchanged kept marks (session_of session.opened session.bytes session.marks operation None) Held
 performed t text line kept marks session call.Unknown = unchanged kept marks session Unknown
 
 -- what a line is answered with, and what it leaves

@@ -1,10 +1,13 @@
 // What a line of a script asks for.
 ghost use Rattle.std.specs.Prelude.{◌≡◌, ℕ};
 ghost use Rattle.script.specs.Words.{words_of};
-ghost use Rattle.replay.specs.Calls.{bare_of, with_number, lookup_of, writing, write_of, calibrating, calibrated_of, operations, amount_of, lent, lend_of, in_hand_lem, held, held_of, holding, hold_of, chosen, call_by, is_skipped, call_of};
+ghost use Rattle.replay.specs.declared.call.Request.TheVariants.{Open, Read, Confirm};
+ghost use Rattle.script.specs.Numbers.{number_of};
+ghost use Rattle.replay.specs.Fields.{carried_of, count_from};
+ghost use Rattle.replay.specs.Calls.{with_number, only, bare_of, lookup_of, write_of, calibrated_of, operations, amount_of, lend_of, in_hand_lem, held_of, holding, hold_of, chosen, call_by, is_skipped, call_of};
 
-use crate::fields::{below, carried, count_numbers, is_bare, only_word, or_zero};
-use script::{Number, Value, is, number_of, pattern_of, rest, value_of, word};
+use crate::fields::{carried, count_numbers, is_bare, only_word};
+use script::{is, number_of, pattern_of, rest, value_of, word};
 use station::Operation;
 use units::{Calibration, calibration_of};
 
@@ -35,135 +38,104 @@ pub enum Call {
 }
 
 // A call that nothing may follow.
-fn bare(tail: &[u8], call: Call) -> Call
+#[tactic(auto, unfolding(crate::specs::Calls::bare_of))]
+fn bare(tail: &[u8], call: Call) -> Option<Call>
     ensures { result ≡ bare_of (words_of tail.now) call }
 {
-    if is_bare(tail) { call } else { Call::Unknown }
+    is_bare(tail).then_some(call)
 }
 
-// A request that was made with this number; without one it is unknown.
-fn with_number(number: Number, request: Request) -> Call
-    ensures { result ≡ with_number number (λ (n : ℕ). request) }
-{
-    match number {
-        Number::Is(_) => Call::Station(request),
-        Number::Nothing => Call::Unknown,
-    }
-}
-
-fn lookup_of(tail: &[u8]) -> Call
+fn lookup_of(tail: &[u8]) -> Option<Call>
     ensures { result ≡ lookup_of (words_of tail.now) }
 {
     if is_bare(tail) {
-        Call::Lookup
+        Some(Call::Lookup)
     } else {
         bare(rest(tail), Call::Lookup)
     }
 }
 
-fn write(variable: Number, value: Value) -> Call
-    ensures { result ≡ writing variable value }
-{
-    let Number::Is(v) = variable else {
-        return Call::Unknown;
-    };
-    let Value::Is(z) = value else {
-        return Call::Unknown;
-    };
-    Call::Station(Request::Write(v as usize, z))
-}
-
-fn write_of(tail: &[u8]) -> Call
+fn write_of(tail: &[u8]) -> Option<Call>
     ensures { result ≡ write_of (words_of tail.now) }
 {
-    let variable = number_of(word(tail));
-    let value = value_of(only_word(rest(tail)));
-    write(variable, value)
+    let variable = number_of(word(tail))?;
+    let value = value_of(only_word(rest(tail))?)?;
+    Some(Call::Station(Request::Write(variable as usize, value)))
 }
 
-fn calibrate(variable: Number, gain: Number, offset: Number) -> Call
-    ensures { result ≡ calibrating variable gain offset }
-{
-    let Number::Is(v) = variable else {
-        return Call::Unknown;
-    };
-    let Number::Is(g) = gain else {
-        return Call::Unknown;
-    };
-    let Number::Is(o) = offset else {
-        return Call::Unknown;
-    };
-    let calibration = calibration_of(g, o);
-    Call::Station(Request::Calibrated(v as usize, calibration))
-}
-
-fn calibrated_of(tail: &[u8]) -> Call
+fn calibrated_of(tail: &[u8]) -> Option<Call>
     ensures { result ≡ calibrated_of (words_of tail.now) }
 {
-    let variable = number_of(word(tail));
+    let variable = number_of(word(tail))?;
     let patterns = rest(tail);
-    let gain = pattern_of(word(patterns));
-    let offset = pattern_of(only_word(rest(patterns)));
-    calibrate(variable, gain, offset)
+    let gain = pattern_of(word(patterns))?;
+    let offset = pattern_of(only_word(rest(patterns))?)?;
+    let calibration = calibration_of(gain, offset);
+    Some(Call::Station(Request::Calibrated(variable as usize, calibration)))
 }
 
-// The calls that begin, go on with or end an operation.
-fn operation_of(verb: &[u8], tail: &[u8]) -> Call
+#[tactic(auto, unfolding(crate::specs::Calls::with_number))]
+fn read_of(tail: &[u8]) -> Option<Call>
+    ensures { result ≡ with_number (only number_of (words_of tail.now)) Read }
+{
+    let variable = number_of(only_word(tail)?)?;
+    Some(Call::Station(Request::Read(variable as usize)))
+}
+
+#[tactic(auto, unfolding(crate::specs::Calls::with_number))]
+fn confirm_of(tail: &[u8]) -> Option<Call>
+    ensures { result ≡ with_number (only carried_of (words_of tail.now)) Confirm }
+{
+    Some(Call::Station(Request::Confirm(carried(only_word(tail)?)?)))
+}
+
+// The calls that begin, go on with or end an operation, tried in the order in which the definition lists them.
+#[tactic(auto, unfolding(crate::specs::Calls::chosen))]
+fn operation_of(verb: &[u8], tail: &[u8]) -> Option<Call>
     ensures { result ≡ chosen (operations verb.now (words_of tail.now)) }
 {
     if is(verb, b"read") {
-        let variable = number_of(only_word(tail));
-        return with_number(variable, Request::Read(or_zero(variable)));
+        read_of(tail)
+    } else if is(verb, b"write") {
+        write_of(tail)
+    } else if is(verb, b"confirm") {
+        confirm_of(tail)
+    } else if is(verb, b"abandon") {
+        bare(tail, Call::Station(Request::Abandon))
+    } else if is(verb, b"calibrated") {
+        calibrated_of(tail)
+    } else {
+        None
     }
-    if is(verb, b"write") {
-        return write_of(tail);
-    }
-    if is(verb, b"confirm") {
-        let number = carried(only_word(tail));
-        let n = or_zero(number) as u32;
-        return with_number(number, Request::Confirm(n));
-    }
-    if is(verb, b"abandon") {
-        return bare(tail, Call::Station(Request::Abandon));
-    }
-    if is(verb, b"calibrated") {
-        return calibrated_of(tail);
-    }
-    Call::Unknown
 }
 
 // How much is lent: a number of bytes, or all.
-fn amount(tail: &[u8]) -> Number
+fn amount(tail: &[u8]) -> Option<u64>
     ensures { result ≡ amount_of (words_of tail.now) }
 {
     if is(word(tail), b"all") & is_bare(rest(tail)) {
-        Number::Is(18446744073709551615)
+        Some(u64::MAX)
     } else {
-        number_of(only_word(tail))
+        number_of(only_word(tail)?)
     }
 }
 
-fn lend(what: &[u8], amount: Number) -> Call
-    ensures { result ≡ lent what.now amount }
-{
-    let Number::Is(count) = amount else {
-        return Call::Unknown;
-    };
-    if is(what, b"record") {
-        return Call::LendRecord(count as usize);
-    }
-    if is(what, b"marks") {
-        return Call::LendMarks(count as usize);
-    }
-    Call::Unknown
-}
-
-fn lend_of(tail: &[u8]) -> Call
+fn lend_of(tail: &[u8]) -> Option<Call>
     ensures { result ≡ lend_of (words_of tail.now) }
 {
-    lend(word(tail), amount(rest(tail)))
+    let what = word(tail);
+    let count = amount(rest(tail))? as usize;
+    if is(what, b"record") {
+        Some(Call::LendRecord(count))
+    } else if is(what, b"marks") {
+        Some(Call::LendMarks(count))
+    } else {
+        None
+    }
 }
 
+// An operation of one of two kinds, as its definition has them by a flag.
+#[tactic(auto, unfolding(crate::specs::Calls::in_hand_lem))]
 fn in_hand(reading: bool, variable: usize, step: usize, pattern: usize) -> Operation
     ensures { result ≡ in_hand_lem reading variable step pattern }
 {
@@ -182,85 +154,70 @@ fn in_hand(reading: bool, variable: usize, step: usize, pattern: usize) -> Opera
     }
 }
 
-fn hold(reading: bool, variable: Number, step: Number, pattern: Number) -> Call
-    ensures { result ≡ held reading variable step pattern }
-{
-    let Number::Is(v) = variable else {
-        return Call::Unknown;
-    };
-    let Number::Is(s) = step else {
-        return Call::Unknown;
-    };
-    let Number::Is(p) = pattern else {
-        return Call::Unknown;
-    };
-    let operation = in_hand(reading, v as usize, s as usize, p as usize);
-    Call::Hold(operation)
-}
-
 // An operation in hand: the variable, the step, and a pattern of 32 bits.
-fn held_of(reading: bool, tail: &[u8]) -> Call
+fn held_of(reading: bool, tail: &[u8]) -> Option<Call>
     ensures { result ≡ held_of reading (words_of tail.now) }
 {
+    let variable = number_of(word(tail))? as usize;
     let second = rest(tail);
-    let variable = number_of(word(tail));
-    let step = number_of(word(second));
-    let pattern = below(4294967296, number_of(only_word(rest(second))));
-    hold(reading, variable, step, pattern)
+    let step = number_of(word(second))? as usize;
+    let pattern = carried(only_word(rest(second))?)? as usize;
+    Some(Call::Hold(in_hand(reading, variable, step, pattern)))
 }
 
-fn hold_as(what: &[u8], tail: &[u8]) -> Call
+#[tactic(auto, unfolding(crate::specs::Calls::holding, crate::specs::Calls::chosen))]
+fn hold_as(what: &[u8], tail: &[u8]) -> Option<Call>
     ensures { result ≡ holding what.now (words_of tail.now) }
 {
     if is(what, b"idle") {
-        return bare(tail, Call::Hold(Operation::Idle));
+        bare(tail, Call::Hold(Operation::Idle))
+    } else if is(what, b"read") {
+        held_of(true, tail)
+    } else if is(what, b"write") {
+        held_of(false, tail)
+    } else {
+        None
     }
-    if is(what, b"read") {
-        return held_of(true, tail);
-    }
-    if is(what, b"write") {
-        return held_of(false, tail);
-    }
-    Call::Unknown
 }
 
-fn hold_of(tail: &[u8]) -> Call
+fn hold_of(tail: &[u8]) -> Option<Call>
     ensures { result ≡ hold_of (words_of tail.now) }
 {
     hold_as(word(tail), rest(tail))
 }
 
-fn call_by(verb: &[u8], tail: &[u8]) -> Call
+#[tactic(auto, unfolding(crate::specs::Calls::with_number))]
+fn open_of(tail: &[u8]) -> Option<Call>
+    ensures { result ≡ with_number (count_from (words_of tail.now) 0) Open }
+{
+    Some(Call::Station(Request::Open(count_numbers(tail)?)))
+}
+
+#[tactic(auto, unfolding(crate::specs::Calls::call_by, crate::specs::Calls::chosen))]
+fn call_by(verb: &[u8], tail: &[u8]) -> Option<Call>
     ensures { result ≡ call_by verb.now (words_of tail.now) }
 {
     if is(verb, b"open") {
-        let count = count_numbers(tail);
-        return with_number(count, Request::Open(or_zero(count)));
+        open_of(tail)
+    } else if is(verb, b"lookup") {
+        lookup_of(tail)
+    } else if is(verb, b"state") {
+        bare(tail, Call::State)
+    } else if is(verb, b"lend") {
+        lend_of(tail)
+    } else if is(verb, b"hold") {
+        hold_of(tail)
+    } else {
+        operation_of(verb, tail)
     }
-    if is(verb, b"lookup") {
-        return lookup_of(tail);
-    }
-    if is(verb, b"state") {
-        return bare(tail, Call::State);
-    }
-    if is(verb, b"lend") {
-        return lend_of(tail);
-    }
-    if is(verb, b"hold") {
-        return hold_of(tail);
-    }
-    operation_of(verb, tail)
 }
 
 // A line without a word, or with a comment, asks for nothing.
+#[tactic(auto, unfolding(crate::specs::Calls::is_skipped))]
 fn is_skipped(first: &[u8]) -> bool
     ensures { result ≡ is_skipped first.now }
 {
-    if 0 < first.len() {
-        first[0] == b';'
-    } else {
-        true
-    }
+    first.is_empty() || first[0] == b';'
 }
 
 pub fn call_of(line: &[u8]) -> Call
@@ -268,7 +225,8 @@ pub fn call_of(line: &[u8]) -> Call
 {
     let verb = word(line);
     if is_skipped(verb) {
-        return Call::Nothing;
+        Call::Nothing
+    } else {
+        call_by(verb, rest(line)).unwrap_or(Call::Unknown)
     }
-    call_by(verb, rest(line))
 }

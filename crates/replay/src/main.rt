@@ -10,42 +10,21 @@ mod show;
 
 ghost use Rattle.std.specs.Prelude.{◌≤◌, IfOk};
 
-use frames::Frame;
-use session::Session;
+use session::{Description, Session};
 use std::io;
-
-fn is_text(frame: Frame) -> bool {
-    match frame {
-        Frame::Text {
-            start: _,
-            end: _,
-            next: _,
-        } => true,
-        Frame::Nothing => false,
-    }
-}
 
 // Tells what a line is answered with.
 fn hear(
     out: &mut impl io::Write,
     line: &[u8],
-    text: &[u8],
-    parameters: &[u32],
-    registers: &[u32],
-    variables: &[u32],
+    description: Description,
     kept: &mut [u32],
     marks: &mut [u8],
     session: Session,
 ) -> io::Result<Session> {
-    let turn = session::answer(
-        line, text, parameters, registers, variables, kept, marks, session,
-    );
-    let after = turn.session;
-    let reply = turn.reply;
-    show::reply(
-        out, reply, parameters, registers, variables, kept, marks, after,
-    )?;
-    Ok(after)
+    let turn = description.answer(line, kept, marks, session);
+    show::reply(out, turn.reply, description, kept, marks, turn.session)?;
+    Ok(turn.session)
 }
 
 // The calls over a text, up to the next text or the end of the input. Each turn takes a line, so the loop ends.
@@ -53,10 +32,7 @@ fn run_calls(
     out: &mut impl io::Write,
     input: &[u8],
     from: usize,
-    text: &[u8],
-    parameters: &[u32],
-    registers: &[u32],
-    variables: &[u32],
+    description: Description,
     kept: &mut [u32],
     marks: &mut [u8],
 ) -> io::Result<usize>
@@ -65,22 +41,11 @@ fn run_calls(
     let mut now = session::begin();
     let mut at = from;
     while at < input.len() {
-        let frame = frames::frame_at(input, at);
-        if is_text(frame) {
+        if frames::frame_at(input, at).is_some() {
             return Ok(at);
         }
         let end = script::line_end(input, at);
-        now = hear(
-            out,
-            &input[at..end],
-            text,
-            parameters,
-            registers,
-            variables,
-            kept,
-            marks,
-            now,
-        )?;
+        now = hear(out, &input[at..end], description, kept, marks, now)?;
         at = end + 1;
     }
     Ok(at)
@@ -108,17 +73,21 @@ fn run_script(
     ensures { IfOk result (λ at. from ≤ at) }
 {
     tell_verdict(out, text)?;
-    let verdict = loader::load(text, parameters, registers, variables);
-    if loader::whole::is_accepted(verdict) {
-        run_calls(
-            out, input, from, text, parameters, registers, variables, kept, marks,
-        )
+    if loader::load(text, parameters, registers, variables).is_ok() {
+        let description = Description {
+            text,
+            parameters,
+            registers,
+            variables,
+        };
+        run_calls(out, input, from, description, kept, marks)
     } else {
         Ok(from)
     }
 }
 
-// One script at a time. What stands behind a refused text, or before the first text, is passed over line by line.
+// One script at a time. What stands behind a refused text, or before the first text, is passed over line by line. Each
+// turn takes a text or a line.
 fn run(
     out: &mut impl io::Write,
     input: &[u8],
@@ -130,30 +99,25 @@ fn run(
 ) -> io::Result<()> {
     let mut at = 0;
     while at < input.len() {
-        let frame = frames::frame_at(input, at);
-        match frame {
-            Frame::Text { start, end, next } => {
-                at = run_script(
-                    out,
-                    input,
-                    next,
-                    &input[start..end],
-                    parameters,
-                    registers,
-                    variables,
-                    kept,
-                    marks,
-                )?;
-            }
-            Frame::Nothing => {
-                let end = script::line_end(input, at);
-                at = end + 1;
-            }
-        }
+        at = match frames::frame_at(input, at) {
+            Some(frame) => run_script(
+                out,
+                input,
+                frame.next,
+                &input[frame.start..frame.end],
+                parameters,
+                registers,
+                variables,
+                kept,
+                marks,
+            )?,
+            None => script::line_end(input, at) + 1,
+        };
     }
     Ok(())
 }
 
+// The tables are arrays of the loader's sizes, so that no script fails for want of memory.
 fn main(rt: HostRuntime) -> io::Result<()> {
     let mut buffer = frames::space();
     let n = streams::read_full(&mut rt.stdin(), &mut buffer)?;

@@ -16,11 +16,13 @@ use Rattle.tables.specs.Sound.{parameter_good, register_good}
 use Rattle.tables.proofs.Consistent.{register-parts}
 use Rattle.tables.proofs.Growth.{Added, SoFar, parameter-added, register-added}
 use Rattle.logic.proofs.Tests.{and_left}
+use Rattle.std.specs.Prelude.{None}
 use Rattle.rules.specs.State.{State, with_parameters, with_registers}
 use Rattle.rules.specs.Names.{declared_before}
 use Rattle.rules.specs.Words.{appended}
 use Rattle.rules.specs.Parameter.{parameter_entry, added_parameter, judge_parameter}
 use Rattle.rules.specs.Register.{register_entry, register_written, added_register, judge_register}
+use Rattle.rules.proofs.FaultLaws.{of-none}
 use Rattle.rules.proofs.JudgingLaws.{unbroken}
 use Rattle.rules.proofs.AppendLaws.{length-appended, appended-added}
 use Rattle.rules.proofs.ParameterShape.{Sets}
@@ -59,14 +61,14 @@ module _ (text : List ℕ) {p r v : ℕ} (s : State) (d : ParameterRead) (g : Gr
   ps-added : Added 36 ps ps_more
   ps-added = appended-added 36 ps (parameter_entry d) (omega (arith, g.parameters-long)) (omega (arith, g.parameters-counted)) (omega (arith, P.entry-long d sets))
 
-  pub grow-parameter : (judge_parameter text s d).fault.number ≡ 0 → Growing (p + 1) r v (judge_parameter text s d)
+  pub grow-parameter : (judge_parameter text s d).fault ≡ None → Growing (p + 1) r v (judge_parameter text s d)
   unfolding judge_parameter added_parameter with_parameters
   grow-parameter none =
       let kept = unbroken s (declared_before text s d.parameter.place d.parameter.length) (added_parameter s d) none in
       rw kept.1.0
       (record {
         so_far = parameter-added s.registers s.variables g.so_far (g.registers-counted ∙ no_register) (g.variables-counted ∙ no-variable) ps-added
-            (parameter_good_lem ps_more (count_of ps) (P.parameter_shape_lem ps d sets ps-fits) kept.1.1);
+            (parameter_good_lem ps_more (count_of ps) (P.parameter_shape_lem ps d sets ps-fits) (of-none _ _ kept.1.1));
         parameters-long = omega (arith, length-appended 36 ps (parameter_entry d), g.parameters-long);
         registers-long = g.registers-long;
         variables-long = g.variables-long;
@@ -94,7 +96,7 @@ module _ (text : List ℕ) {p r v : ℕ} (s : State) (d : Register) (g : Growing
   rs-fits : 15 * count_of rs + 16 ≤ length rs
   rs-fits = omega (arith, g.registers-long, g.registers-counted)
 
-  pub grow-register : (judge_register text s d).fault.number ≡ 0 → Growing p (r + 1) v (judge_register text s d)
+  pub grow-register : (judge_register text s d).fault ≡ None → Growing p (r + 1) v (judge_register text s d)
   unfolding judge_register added_register with_registers
   grow-register none =
       let kept = unbroken s (register_written text s d) (added_register text s d) none in
@@ -104,7 +106,7 @@ module _ (text : List ℕ) {p r v : ℕ} (s : State) (d : Register) (g : Growing
       rw kept.1.0
       (record {
         so_far = register-added s.parameters s.variables g.so_far added
-            (register_good_lem s.parameters rs-more (count_of rs) (R.register_shape_lem text s d kept.0 rs-fits (omega (arith, g.parameters-counted)) (fault-wide s.parameters rs-more (count_of rs) kept.1.1)) kept.1.1);
+            (register_good_lem s.parameters rs-more (count_of rs) (R.register_shape_lem text s d kept.0 rs-fits (omega (arith, g.parameters-counted)) (fault-wide s.parameters rs-more (count_of rs) (of-none _ _ kept.1.1))) (of-none _ _ kept.1.1));
         parameters-long = g.parameters-long;
         registers-long = omega (arith, length-appended 15 rs (register_entry text s.parameters d), g.registers-long);
         variables-long = g.variables-long;

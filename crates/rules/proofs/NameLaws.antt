@@ -1,58 +1,35 @@
 -- Turns of the loops that compare names and search for one.
 use Prim.Native.Nat.{ℕ, ◌+◌, ◌-◌, ◌*◌, ◌/◌, ◌≤◌, ◌<◌, min}
 use native.Mathlib.Omega.{arith}
-use native.Mathlib.Nat.{min-eq_left, min-eq_right, min-zero, min-le_left, zero-div, le_of_lt, mul-le-mul_right}
-use native.Mathlib.Numerals.{add-one}
+use native.Mathlib.Nat.{min-eq_left, min-eq_right, min-le_left, le_of_lt}
 use mathlib.Core.Path.{◌≡◌, refl, sym, ap, ◌∙◌}
 use mathlib.Core.Bool.{Bool, true, false, ◌&&◌}
 use mathlib.Core.List.{List, [], ◌∷◌}
 use lib.Dec.{eqb, ltb, leb}
 use lib.ListN.{length, get_or, take, drop, length-drop, drop_of_length-le}
-use lib.Seq.{drop-cons, take_all, take-length, drop-length, get_or-drop, get_or-take}
-use borrow.Author.Tests.{eq-eqb, ne_eqb, lt-ltb, le-ltb, eqb-true, leb-true, leb-false, ltb-true}
+use lib.Seq.{take_all, take-length, drop-length, get_or-drop, get_or-take}
+use borrow.Author.Tests.{eq-eqb, ne_eqb, eqb-true, eqb-false, leb-true, leb-false, ltb-true}
+use Rattle.std.specs.List.{starts_with}
 use Rattle.token.specs.Bytes.{begins}
 use Rattle.tables.specs.Every.{first_of, Word}
 use Rattle.tables.specs.Tables.{count_of}
-use Rattle.tables.proofs.Laws.{first_found}
-use Rattle.rules.specs.declared.names.Found.TheVariants.{At, Nothing}
 use Rattle.rules.specs.Names.{stands_at, is_named, held_of, Held, found_below, found_in, index_of}
 use Rattle.logic.proofs.Tests.{and_left, and_right}
 use Rattle.token.proofs.Lexemes.{begins-take}
 
-module _ (name text : List ℕ) (k : ℕ) where
-  pub begins-end : length name ≤ k → begins (drop k name) (drop k text) ≡ true
-  unfolding begins
-  begins-end h = rw (drop_of_length-le name h)
-
-  pub begins-short : k < length name → length text ≤ k → begins (drop k name) (drop k text) ≡ false
-  unfolding begins
-  begins-short h s = rw (drop-cons name k 0 h, drop_of_length-le text s)
-
-  pub begins-on : k < length name → k < length text → get_or text k 0 ≡ get_or name k 0
-      → begins (drop k name) (drop k text) ≡ begins (drop (k + 1) name) (drop (k + 1) text)
-  unfolding begins
-  begins-on h s e = rw (add-one, drop-cons name k 0 h, drop-cons text k 0 s, eq-eqb (get_or text k 0) (get_or name k 0) e)
-
-  pub begins-differs : k < length name → k < length text → (get_or text k 0 ≡ get_or name k 0 → ⊥) → begins (drop k name) (drop k text) ≡ false
-  unfolding begins
-  begins-differs h s e = rw (drop-cons name k 0 h, drop-cons text k 0 s, ne_eqb (get_or text k 0) (get_or name k 0) e)
-
--- the two ends of a search
-pub found_here : (text table : List ℕ) (stride : ℕ) (name : List ℕ) {i n : ℕ} {b : Bool} → i < n → n ≡ held_of stride table
-    → first_of i (λ j. is_named text table (stride * j + 1) name) ≡ i → b ≡ is_named text table (stride * i + 1) name → b ≡ true
-    → At i ≡ found_in text table stride name
-unfolding found_in found_below
-found_here text table stride name {i} {n} l e h b t =
-    let f = first_found n i (λ (j : ℕ). is_named text table (stride * j + 1) name) l h (sym b ∙ t) in
-    rw (← e, f, lt-ltb i n l)
-
-pub found_none : (text table : List ℕ) (stride : ℕ) (name : List ℕ) {i n : ℕ} → i ≤ n → n ≤ i → n ≡ held_of stride table
-    → first_of i (λ j. is_named text table (stride * j + 1) name) ≡ i
-    → Nothing ≡ found_in text table stride name
-unfolding found_in found_below
-found_none text table stride name {i} {n} l g e h =
-    let q : i ≡ n = omega arith in
-    rw (← e, ← q, h, le-ltb i i (omega arith))
+-- std's test of how a text begins
+pub begins-is : (name text : List ℕ) → starts_with eqb text name ≡ begins name text
+unfolding begins
+begins-is [] text = refl
+begins-is (a ∷ name) [] = refl
+begins-is (a ∷ name) (x ∷ text) = rw (swapped a x, begins-is name text)
+  where
+    swapped : (a x : ℕ) → eqb a x ≡ eqb x a
+    swapped a x = go (eqb x a) refl
+      where
+        go : (b : Bool) → eqb x a ≡ b → eqb a x ≡ b
+        go true e = eq-eqb a x (sym (eqb-true x a e))
+        go false e = ne_eqb a x (λ q. eqb-false x a e (sym q))
 
 -- what does not change past the length of a list, at a number held to that length
 held-inside : (f : ℕ → List ℕ) (n most : ℕ) → (most ≤ n → f most ≡ f n) → f (min n most) ≡ f n
@@ -63,12 +40,14 @@ held-inside f n most past = go (leb n most) refl
     go false h = let l = le_of_lt (leb-false n most h) in ap f (min-eq_right l) ∙ past l
 
 -- a part of a text whose ends are held inside it
-pub part_of : (text : List ℕ) (place extent : ℕ) {start more : ℕ} → start ≡ min place (length text) → more ≡ min extent (length text - start)
-    → take (start + more - start) (drop start text) ≡ take extent (drop place text)
+pub part_of : (text : List ℕ) (place extent : ℕ) {start more : ℕ} → start ≡ min place (length text)
+    → more ≡ min extent (length (take (length text - start) (drop start text)))
+    → take more (take (length text - start) (drop start text)) ≡ take extent (drop place text)
 part_of text place extent {start} {more} s m =
     let rest = drop start text in
-    let e : start + more - start ≡ min extent (length rest) = omega (arith, m, length-drop start text) in
-    ap (λ (n : ℕ). take n rest) e
+    let whole : take (length text - start) rest ≡ rest = take_all (length text - start) rest (omega (arith, length-drop start text)) in
+    ap (take more) whole
+    ∙ ap (λ (n : ℕ). take n rest) (m ∙ ap (λ (l : List ℕ). min extent (length l)) whole)
     ∙ held-inside (λ n. take n rest) extent (length rest) (λ l. take-length rest ∙ sym (take_all extent rest l))
     ∙ ap (λ (n : ℕ). take extent (drop n text)) s
     ∙ ap (take extent) (held-inside (λ n. drop n text) place (length text) (λ l. drop-length text ∙ sym (drop_of_length-le text l)))
@@ -91,17 +70,7 @@ module _ (text : List ℕ) (place extent : ℕ) (name : List ℕ) where
   unfolding stands_at
   stands-left t = rw t
 
--- where an entry of a search stands
-pub strides : (stride i : ℕ) → stride < 128 → i < 4294967296 → stride * i < 549755813888
-strides stride i s h =
-    let a : stride * i ≤ 127 * i = mul-le-mul_right i (omega arith) in
-    omega arith
-
--- how many entries a table holds whole: none without a word, else what the count allows
-pub held_none : (stride : ℕ) (table : List ℕ) → length table ≡ 0 → Held stride table 0
-unfolding held_of
-held_none stride table e = record { is = sym (rw (e, zero-div, min-zero)); small = omega arith }
-
+-- how many entries a table holds whole: what the count allows
 pub held-some : (stride : ℕ) (table : List ℕ) {n r : ℕ} → Word table 0 n → r ≡ min n ((length table - 1) / stride) → Held stride table r
 unfolding held_of
 held-some stride table {n} {r} w e =
@@ -110,7 +79,7 @@ held-some stride table {n} {r} w e =
 
 -- the index of what is found is small
 pub index-small : (text table : List ℕ) (stride : ℕ) (name : List ℕ) → count_of table < 4294967296 → index_of (found_in text table stride name) < 4294967296
-unfolding found_in found_below held_of index_of
+unfolding found_in found_below held_of
 index-small text table stride name h =
     go (ltb (first_of (held_of stride table) (λ i. is_named text table (stride * i + 1) name)) (held_of stride table)) refl
   where

@@ -1,37 +1,36 @@
--- An offset as the machine holds it: a signed number that is natural or not.
+-- An offset as it is written, and the words of a part.
 use Prim.Native.Nat.{ℕ}
-use mathlib.Core.Path.{◌≡◌, refl}
-use mathlib.Core.Bool.{Bool, true, false}
-use lib.ListN.{length}
-use Rattle.rules.specs.declared.mask.Mask.{Mask}
-use native.Mathlib.Omega.{arith}
+use mathlib.Core.Path.{◌≡◌, refl, ap, ◌∙◌}
+use mathlib.Core.Bool.{Bool, true, false, ◌&&◌}
 use lib.IntN.{ℤ, pos, negsuc, nat_abs}
-use lib.Dec.{T}
-use borrow.Author.Tests.{le-leb, ltb-true}
-use lib.Signed.{lt_z, le_z, non_neg}
-use mir.Syntax.{w32, w64}
-use mir.Val.{SFits, Fits}
-use Rattle.expression.specs.declared.Worth.TheVariants.{Good}
-use Rattle.rules.specs.Register.{is_natural, natural_of, part_entry}
+use mir.Syntax.{w32}
+use mir.Val.{SFits}
+use native.Mathlib.Omega.{arith}
+use lib.ListN.{length}
+use Rattle.std.specs.Prelude.{Option, Some, None, Result, Ok, Err, MatchOption, OkIff, is_some, unwrap_or}
+use Rattle.std.specs.Int.{FitsUnsignedBits}
+use Rattle.std.specs.Result.{result_ok}
+use Rattle.expression.specs.Value.{Worth}
+use Rattle.rules.specs.declared.mask.Mask.{Mask}
+use Rattle.rules.specs.Register.{natural_in, part_entry}
 
-pub offset-fits : (z : ℤ) → SFits w32 z → lt_z z (pos 0) ≡ false → T (non_neg z) × Fits w64 (nat_abs z)
-offset-fits (pos k) f h = (tt, record { fits = omega (arith, f.sfits) })
-offset-fits (negsuc k) f h = let n : ◌≡◌ {A = ℕ} 0 1 = cc in absurd (omega arith)
+pub natural-is : {P : ℤ → Type 0} (worth : Worth) {r : Option ℕ} → MatchOption worth (r ≡ None) P → ((z : ℤ) → P z → r ≡ natural_in (Some z)) → r ≡ natural_in worth
+unfolding natural_in
+natural-is None h k = h
+natural-is (Some z) h k = k z h
 
-pub offset-is : (z : ℤ) → lt_z z (pos 0) ≡ false → nat_abs z ≡ natural_of (Good z)
-unfolding natural_of
-offset-is (pos k) h = refl
-offset-is (negsuc k) h = let n : ◌≡◌ {A = ℕ} 0 1 = cc in absurd (omega arith)
+pub natural-tried : {E : Type 0} (z : ℤ) {y : ℤ} (r : Result ℕ E) {o : Option ℕ} → SFits w32 z → y ≡ z
+    → OkIff r (FitsUnsignedBits 64 y) (nat_abs y) → o ≡ result_ok r → o ≡ natural_in (Some z)
+unfolding natural_in
+natural-tried (pos n) (Ok x) f e h i = i ∙ ap Some ((rw e at h).1)
+natural-tried (pos n) (Err why) f e h i = absurd ((rw e at h) (omega (arith, f.sfits)))
+natural-tried (negsuc n) (Ok x) f e h i = absurd ((rw e at h).0)
+natural-tried (negsuc n) (Err why) f e h i = i
 
-pub offset-none : (z : ℤ) → lt_z z (pos 0) ≡ true → 0 ≡ natural_of (Good z)
-unfolding natural_of
-offset-none (pos k) h = let l = ltb-true k 0 h in absurd (omega arith)
-offset-none (negsuc k) h = refl
-
-pub natural-test : (z : ℤ) → le_z (pos 0) z ≡ is_natural (Good z)
-unfolding is_natural
-natural-test (pos k) = le-leb 0 k (omega arith)
-natural-test (negsuc k) = refl
+pub some-and : {P : ℕ → Type 0} (o : Option ℕ) (f : ℕ → Bool) {b : Bool} → MatchOption o (b ≡ false) P → ((n : ℕ) → P n → b ≡ f n)
+    → b ≡ (is_some o && f (unwrap_or o 0))
+some-and None f h k = h
+some-and (Some n) f h k = k n h
 
 -- the words of a part are six
 pub part_length : (present : Bool) (index offset : ℕ) (mask : Mask) → length (part_entry present index offset mask) ≡ 6

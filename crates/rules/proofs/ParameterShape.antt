@@ -9,7 +9,7 @@ use lib.Dec.{eqb, leb}
 use lib.ListN.{length, get_or, set, replicate, length-set, length-replicate, get_or-replicate, get_or-eq_default}
 use lib.Seq.{get_or-set_other}
 use borrow.Author.Tests.{le-leb, leb-true, leb-false}
-use Rattle.syntax.specs.declared.reader.Step.{Step}
+use Rattle.syntax.specs.Step.{Step}
 use Rattle.syntax.specs.Reader.{seen_at, fixed_after}
 use Rattle.syntax.specs.Items.{Filed, unless_full, closed_by, item_turn, more_items, items_after}
 use Rattle.syntax.specs.Parameter.{ParameterRead, stored, range_after, next_range, ranges_after, set_after, parameter_after}
@@ -47,9 +47,9 @@ more-ranged n low high table r =
 
 -- what was read of a parameter's set
 record Set (least : ℕ) (l : Filed) : Type 0 where
-  some : least ≤ l.listed.count
-  few : l.listed.count ≤ 16
-  ranged : Ranged l.listed.count l.table
+  some : least ≤ l.listed.value
+  few : l.listed.value ≤ 16
+  ranged : Ranged l.listed.value l.table
 
 module _ (text : List ℕ) where
   next-set : (count : ℕ) (table : List ℕ) (s : Step) → count ≤ 16 → Ranged count table → Set 1 (next_range text count table s)
@@ -63,7 +63,7 @@ module _ (text : List ℕ) where
           (record {
             some = omega arith;
             few = omega (arith, leb-false 16 count e);
-            ranged = more-ranged count (range_after text s).first (range_after text s).last table r;
+            ranged = more-ranged count (range_after text s).value.first (range_after text s).value.last table r;
           })
 
   ranges-set : (table : List ℕ) (s : Step) → Ranged 0 table → Set 1 (ranges_after text table s)
@@ -71,7 +71,7 @@ module _ (text : List ℕ) where
   ranges-set table s r =
       let one = next-set 0 table s (omega arith) r in
       loop-keeps text (λ l. l.listed.step) (λ kind. eqb kind 300) (item_turn text (next_range text) 300) (Set 1)
-      (λ l e h. next-set l.listed.count l.table (seen_at text l.listed.step).past h.few h.ranged) (length text) _
+      (λ l e h. next-set l.listed.value l.table (seen_at text l.listed.step).past h.few h.ranged) (length text) _
       (record { some = one.some; few = one.few; ranged = one.ranged })
 
   set-read : (s : Step) → Set 1 (set_after text (replicate 32 0) s)

@@ -17,6 +17,8 @@ use Rattle.bits.specs.Widths.{is_width}
 use Rattle.tables.specs.Rules.{register_part_shape, register_shape}
 use Rattle.tables.proofs.ZeroLaws.{zeros-are}
 use Rattle.rules.specs.declared.mask.Mask.{Mask}
+use Rattle.std.specs.Prelude.{None}
+use Rattle.std.specs.Bool.{then_some}
 use Rattle.rules.specs.State.{State}
 use Rattle.rules.specs.Words.{word_of, appended}
 use Rattle.rules.specs.Names.{is_named, held_of, found_below, found_in, is_nothing, index_of}
@@ -72,7 +74,7 @@ zero_word (suc (suc (suc (suc (suc (suc k)))))) = refl
 
 -- a name that is found is found below the count
 below : (n i : ℕ) → is_nothing (found_below n i) ≡ false → index_of (found_below n i) < n
-unfolding found_below is_nothing index_of
+unfolding found_below
 below n i h = go (ltb i n) refl
   where
     go : (b : Bool) → ltb i n ≡ b → index_of (found_below n i) < n
@@ -109,7 +111,7 @@ some-part r = go r.two refl (eqb r.first.mark 2) refl
     go false e true g = rw (e, eqb-true r.first.mark 2 g)
     go false e false g = rw (e, g)
 
-module _ (text : List ℕ) (s : State) (r : Register) (none : (register_written text s r).number ≡ 0) where
+module _ (text : List ℕ) (s : State) (r : Register) (none : register_written text s r ≡ None) where
   abbrev ps : List ℕ
   ps = s.parameters
 
@@ -129,7 +131,7 @@ module _ (text : List ℕ) (s : State) (r : Register) (none : (register_written 
       let a = (or-none _ _ none).1 in
       let b = or-none _ _ a in
       let c = (or-none _ _ b.1).0 in
-      (if_none _ 7 r.first.place (λ e. omega arith) b.0, λ e. if_none _ 7 r.second.place (λ g. omega arith) (only_none r.two _ c e))
+      (if_none _ 7 r.first.place b.0, λ e. if_none _ 7 r.second.place (only_none r.two _ c e))
 
   port-known : (mark : ℕ) → is_nothing (port_found text ps (port_of r mark)) ≡ false
   unfolding port_of
@@ -187,7 +189,7 @@ module _ (text : List ℕ) (s : State) (r : Register) (none : (register_written 
         → (register_part_shape ps with-entry r.width (register_part n p) ≡ true) × (present with-entry (register_part n p) ≡ has_part_lem r other)
     unfolding part_words part_mask
     parts p other mark own quote words =
-        part-judged ps with-entry r.width (register_part n p) _ _ _ (at-fitting text r.width (leb 1 (r.masks.bare + own)) (cond (eqb own 0) r.masks.whole quote))
+        part-judged ps with-entry r.width (register_part n p) _ _ _ (at-fitting text r.width (then_some (leb 1 (r.masks.bare + own)) (cond (eqb own 0) r.masks.whole quote)))
         (has_part_lem r other) words (port-below mark) few
 
     pub read-shape : (register_part_shape ps with-entry (register_width with-entry n) (register_part n 0) ≡ true) × (present with-entry (register_part n 0) ≡ has_part_lem r 2)

@@ -2,13 +2,12 @@
 use Prim.Native.Nat.{ℕ, ◌+◌, ◌≤◌, min}
 use native.Mathlib.Nat.{min-eq_left, min-eq_right}
 use native.Mathlib.Omega.{arith}
-use mathlib.Core.Path.{◌≡◌, refl, sym, ap, ◌∙◌}
-use mathlib.Core.Bool.{Bool, true, false, ◌&&◌, not, cond}
+use mathlib.Core.Path.{◌≡◌, refl, sym, ◌∙◌}
+use mathlib.Core.Bool.{Bool, true, false, ◌&&◌, cond}
 use mathlib.Core.List.{List}
 use lib.Dec.{eqb, leb}
-use lib.ListN.{set}
 use lib.Seq.{get_or-set_other}
-use borrow.Author.Tests.{leb-true, leb-false, eqb-true, eqb-false, eq-eqb, ne_eqb}
+use borrow.Author.Tests.{leb-true, leb-false, eqb-true, eqb-false}
 use Rattle.syntax.specs.declared.variable.Variable.{Variable}
 use Rattle.tables.specs.Every.{every}
 use Rattle.tables.specs.Rules.{variable_shape, variable_fault}
@@ -16,37 +15,24 @@ use Rattle.tables.specs.Tables.{count_of, variable_at, variable_part}
 use Rattle.tables.specs.Scan.{Mapped, enters_of}
 use Rattle.tables.specs.Marks.{marks}
 use Rattle.rules.specs.Words.{word_of, written}
-use Rattle.rules.specs.Lists.{list_for, part_words}
+use Rattle.rules.specs.Lists.{list_no, part_words}
+use Rattle.rules.specs.declared.lists.Given.{Given}
+use Rattle.rules.specs.declared.lists.Given.TheVariants.{First, Second}
+use Rattle.std.specs.Option.{is_none}
+use Rattle.std.specs.Prelude.{Some, None}
 use Rattle.syntax.specs.Variable.{VariableRead}
+use Rattle.std.specs.Prelude.{Option}
 use Rattle.rules.specs.declared.fault.Fault.{Fault}
 use Rattle.rules.specs.declared.declared.Judging.{Judging}
 use Rattle.rules.specs.declared.variable.Early.{Early}
-use Rattle.rules.specs.Fault.{no_fault, fault_if, is_fault, or_else}
-use Rattle.rules.specs.State.{State, state_of, faulted, stopped, unless_broken, with_variables}
-use Rattle.rules.specs.Variable.{triggers, head_words, with_variable, bad_behaviours, lowest, read_of, name_fault, first_pieces, second_pieces, list_of, early_fault, early_of, late_number, added_variable, judge_variable}
+use Rattle.rules.specs.Fault.{fault_if, fault_of, is_fault, or_else}
+use Rattle.rules.specs.State.{State, state_of, stopped, unless_broken, with_variables}
+use Rattle.rules.specs.Variable.{triggers, head_words, with_variable, bad_behaviours, lowest, read_of, name_fault, list_of, early_fault, EarlyOf, late_number, added_variable, judge_variable}
+use Rattle.rules.proofs.JudgingLaws.{with_fault}
 use Rattle.rules.proofs.FrameLaws.{written_below}
 use Rattle.tables.proofs.SameLaws.{Alike}
 use Rattle.tables.proofs.Growth.{mapped-same}
 use Rattle.tables.proofs.SoundLaws.{mapped-more, own-none}
-
--- the lower of two numbers, by a test
-pub least-of : (a b : ℕ) → cond (leb a b) a b ≡ min a b
-least-of a b = go (leb a b) refl
-  where
-    go : (t : Bool) → leb a b ≡ t → cond t a b ≡ min a b
-    go true h = sym (min-eq_left (leb-true a b h))
-    go false h = let l = leb-false a b h in sym (min-eq_right (omega arith))
-
--- the entry, store by store
-pub entered : (vs : List ℕ) (d : Variable) (first second : List ℕ) (read write : ℕ) {v count reads writes : ℕ} {headed half whole all : List ℕ}
-    → v ≡ count_of vs → reads ≡ triggers d.rest.behaviours d.rest.behaviours.read
-    → writes ≡ triggers d.rest.behaviours d.rest.behaviours.write
-    → headed ≡ written vs (variable_at v) (head_words d)
-    → half ≡ written headed (variable_part v 0) (part_words d first second reads read)
-    → whole ≡ written half (variable_part v 1) (part_words d first second writes write)
-    → all ≡ set whole 0 count → count ≡ word_of (v + 1) → all ≡ with_variable vs d first second read write
-unfolding with_variable
-entered vs d first second read write e r w h p q a c = rw (a, c, q, p, h, r, w, e)
 
 -- the words before the new entry are as they were, the count aside
 pub before-entry : (vs : List ℕ) (d : Variable) (first second : List ℕ) (read write : ℕ)
@@ -99,17 +85,10 @@ mapped_at rs t other {v = v} few is none e m r w =
     rw (← e) (mapped-more rs t v few (own-none rs t v (lowest-none (variable_fault rs t v) other (sym is ∙ none))) m r w)
 
 -- ---- the judging, call by call
-pub late-none : (place : ℕ) {number : ℕ} {late : Fault} → late ≡ fault_if (not (eqb number 0)) number place → late.number ≡ 0 → number ≡ 0
-unfolding fault_if
-late-none place {number} {late} h z = go (eqb number 0) refl
-  where
-    go : (b : Bool) → eqb number 0 ≡ b → number ≡ 0
-    go true e = eqb-true number 0 e
-    go false e = sym (ap (λ (f : Fault). f.number) (h ∙ ap (λ (b : Bool). cond (not b) (record { number = number; place = place }) no_fault) e)) ∙ z
-
-pub faulted-number : (j : Judging) (f : Fault) {r : Judging} → r ≡ faulted j f → r.fault.number ≡ f.number
-unfolding faulted
-faulted-number j f e = ap (λ (r : Judging). r.fault.number) e
+pub none-is : (given : Option Given) → is_none given ≡ eqb (list_no given) 0
+none-is None = refl
+none-is (Some First) = refl
+none-is (Some Second) = refl
 
 module _ (text : List ℕ) (j : Judging) (ps rs vs : List ℕ) (d : Variable) (first second : List ℕ) where
   abbrev before : State
@@ -119,33 +98,20 @@ module _ (text : List ℕ) (j : Judging) (ps rs vs : List ℕ) (d : Variable) (f
   it = read_of d first second
 
   -- what breaks before there is an entry
-  pub early-is : {names unpaired fault : Fault} {firsts seconds : List ℕ} {read write : ℕ} → names ≡ name_fault text before it → firsts ≡ first_pieces text before it
-      → seconds ≡ second_pieces text before it → read ≡ list_for rs d firsts 0 → write ≡ list_for rs d firsts 1
-      → unpaired ≡ fault_if (eqb read 0 && eqb write 0) 11 d.place → fault ≡ or_else names unpaired
-      → record { fault = fault; read = read; write = write; firsts = firsts; seconds = seconds } ≡ early_of text before it
-  unfolding early_of early_fault state_of read_of
-  early-is n f s r w u e = rw (e, u, r, w, f, s, n)
+  pub early-is : (read write : Option Given) {names unpaired fault : Option Fault} → names ≡ name_fault text before it
+      → list_no read ≡ list_of text before it 0 → list_no write ≡ list_of text before it 1
+      → unpaired ≡ fault_if (is_none read && is_none write) 11 d.place → fault ≡ or_else names unpaired → fault ≡ early_fault text before it
+  unfolding early_fault state_of read_of
+  early-is read write n r w u e = rw (e, u, none-is read, none-is write, r, w, n)
 
-  module _ {early : Early} (e : early ≡ early_of text before it) where
-    parts_are : (early.fault ≡ early_fault text before it) × (early.read ≡ list_of text before it 0) × (early.write ≡ list_of text before it 1) ×
-        (early.firsts ≡ first_pieces text before it) × (early.seconds ≡ second_pieces text before it)
-    unfolding early_of
-    parts_are = (
-      ap (λ (x : Early). x.fault) e,
-      ap (λ (x : Early). x.read) e,
-      ap (λ (x : Early). x.write) e,
-      ap (λ (x : Early). x.firsts) e,
-      ap (λ (x : Early). x.seconds) e,
-    )
+  module _ {early : Early} (e : EarlyOf text before it early) where
+    pub judged-early : is_fault early.fault ≡ true → state_of (with_fault j ps rs vs early.fault) ps rs vs ≡ judge_variable text before it
+    unfolding judge_variable unless_broken stopped state_of
+    judged-early z = rw (← e.fault, z)
 
-    pub judged-early : {r : Judging} → (early.fault.number ≡ 0 → ⊥) → r ≡ faulted j early.fault → state_of r ps rs vs ≡ judge_variable text before it
-    unfolding judge_variable unless_broken is_fault stopped state_of faulted
-    judged-early z h = rw (h, ← parts_are.0, ne_eqb early.fault.number 0 z)
-
-    pub judged-late : {t : List ℕ} {number : ℕ} {late : Fault} {r : Judging} → (early.fault.number ≡ 0)
-        → t ≡ with_variable vs d early.firsts early.seconds early.read early.write
-        → number ≡ lowest (variable_fault rs t (count_of vs)) (cond (bad_behaviours d.rest.behaviours early.read early.write) 13 0)
-        → late ≡ fault_if (not (eqb number 0)) number d.place → r ≡ faulted j late → state_of r ps rs t ≡ judge_variable text before it
-    unfolding judge_variable unless_broken is_fault added_variable with_variables state_of read_of late_number faulted
-    judged-late z t m l h =
-        rw (h, ← parts_are.0, eq-eqb early.fault.number 0 z, l, m, t, parts_are.1, parts_are.2, parts_are.3, parts_are.4)
+    pub judged-late : {t : List ℕ} {late : Option Fault} → is_fault early.fault ≡ false
+        → t ≡ with_variable vs d early.firsts early.seconds (list_no early.read) (list_no early.write)
+        → late ≡ fault_of (lowest (variable_fault rs t (count_of vs)) (cond (bad_behaviours d.rest.behaviours (list_no early.read) (list_no early.write)) 13 0)) d.place
+        → state_of (with_fault j ps rs vs late) ps rs t ≡ judge_variable text before it
+    unfolding judge_variable unless_broken added_variable with_variables state_of read_of late_number
+    judged-late z t l = rw (← e.fault, z, l, t, e.read, e.write, e.firsts, e.seconds)

@@ -1,12 +1,12 @@
 -- Turns of the loops that store words.
-use Prim.Native.Nat.{ℕ, zero, suc, ◌+◌, ◌*◌, ◌≤◌, ◌<◌}
+use Prim.Native.Nat.{ℕ, suc, ◌+◌, ◌*◌, ◌≤◌, ◌<◌}
 use native.Mathlib.Omega.{arith}
-use native.Mathlib.Nat.{min-eq_left, not-suc-le-zero, le_of_suc-le-suc}
+use native.Mathlib.Nat.{min-eq_left}
 use native.Mathlib.Numerals.{add-one}
-use mathlib.Core.Path.{◌≡◌, refl, ap, ◌∙◌}
-use mathlib.Core.List.{List, [], ◌∷◌, ◌++◌, append-nil}
-use lib.ListN.{length, get_or, drop, set, replicate, drop_of_length-le}
-use lib.Seq.{drop-cons, drop-length, sets}
+use mathlib.Core.Path.{◌≡◌, ap, ◌∙◌}
+use mathlib.Core.List.{List, [], ◌∷◌, ◌++◌}
+use lib.ListN.{length, get_or, drop, set, drop_of_length-le}
+use lib.Seq.{drop-cons, sets}
 use Rattle.tables.specs.Tables.{count_of}
 use Rattle.rules.specs.Words.{word_of, written, appended}
 
@@ -31,21 +31,6 @@ written-turn t at k ws h p =
 pub written-end : (t : List ℕ) (at k : ℕ) (ws : List ℕ) → length ws ≤ k → written t (at + k) (drop k ws) ≡ t
 unfolding written
 written-end t at k ws h = rw (drop_of_length-le ws h)
-
--- one zero more
-clear-suc : (k : ℕ) (t : List ℕ) → k < length t → set (replicate k 0 ++ drop k t) k 0 ≡ replicate (suc k) 0 ++ drop (suc k) t
-clear-suc zero [] h = absurd (not-suc-le-zero h)
-clear-suc zero (x ∷ t) h = refl
-clear-suc (suc k) [] h = absurd (not-suc-le-zero h)
-clear-suc (suc k) (x ∷ t) h = ap (λ (l : List ℕ). 0 ∷ l) (clear-suc k t (le_of_suc-le-suc h))
-
-pub clear-turn : (k : ℕ) (t : List ℕ) {s : List ℕ} → k < length t → s ≡ replicate k 0 ++ drop k t → set s k 0 ≡ replicate (k + 1) 0 ++ drop (k + 1) t
-clear-turn k t h e = rw (e, add-one) (clear-suc k t h)
-
-pub clear-end : {k n : ℕ} (t : List ℕ) {s : List ℕ} → k ≤ n → n ≤ k → n ≡ length t → s ≡ replicate k 0 ++ drop k t → s ≡ replicate (length t) 0
-clear-end {k} {n} t l g m e =
-    let q : k ≡ length t = omega arith in
-    e ∙ rw (q, drop-length t) (append-nil (replicate (length t) 0))
 
 -- stores of two runs, one behind the other
 pub written_both : (t : List ℕ) (at : ℕ) (xs ys : List ℕ) → written t at (xs ++ ys) ≡ written (written t at xs) (at + length xs) ys

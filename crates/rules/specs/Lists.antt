@@ -2,12 +2,13 @@
 -- A list was read into five words for each piece: the place and the length of the register's name, whether it is taken
 -- whole, the high bit and the low one.
 -- `rs` are the registers; a part p is 0 for read and 1 for write.
-use Rattle.std.specs.Prelude.{ℕ, zero, suc, ◌+◌, ◌-◌, ◌*◌, Bool, ◌&&◌, cond, List, [], ◌∷◌, eqb, get_or, replicate}
+use Rattle.std.specs.Prelude.{ℕ, zero, suc, ◌+◌, ◌-◌, ◌*◌, Bool, ◌&&◌, cond, List, [], ◌∷◌, eqb, get_or, replicate, Option, Some, None}
 use Rattle.syntax.specs.declared.variable.Variable.{Variable}
 use Rattle.tables.specs.Every.{every}
 use Rattle.tables.specs.Words.{present, register_part, register_width}
 use Rattle.rules.specs.declared.fault.Fault.{Fault}
-use Rattle.rules.specs.declared.names.Found.{Found}
+use Rattle.rules.specs.declared.lists.Given.{Given}
+use Rattle.rules.specs.declared.lists.Given.TheVariants.{First, Second}
 use Rattle.rules.specs.Fault.{no_fault, fault_if, or_else}
 use Rattle.rules.specs.Modifiers.{are_paired}
 use Rattle.rules.specs.Names.{name_of, register_named, is_nothing, index_of}
@@ -20,11 +21,11 @@ high_in rs list k r = cond (eqb (get_or list (5 * k + 2) 0) 1) (register_width r
 
 module _ (text rs list : List ℕ) where
   -- the register that piece k names
-  unfoldable pub piece_named : ℕ → Found
+  unfoldable pub piece_named : ℕ → Option ℕ
   piece_named k = register_named text rs (name_of text (get_or list (5 * k) 0) (get_or list (5 * k + 1) 0))
 
   -- 7: the first of n pieces whose name is no register's
-  unfoldable pub unknown_in : ℕ → Fault
+  unfoldable pub unknown_in : ℕ → Option Fault
   unknown_in zero = no_fault
   unknown_in (suc n) = or_else (unknown_in n) (fault_if (is_nothing (piece_named n)) 7 (get_or list (5 * n) 0))
 
@@ -52,6 +53,12 @@ paired d = are_paired (eqb d.rest.count 0) d.mark d.rest.mark
 -- each of n pieces is of a register that has the part
 unfoldable pub all_have : List ℕ → ℕ → List ℕ → ℕ → Bool
 all_have rs p pieces n = every n (λ k. present rs (register_part (get_or pieces (3 * k) 0) p))
+
+-- the number of a list that gives a part: 1 for the first, 2 for the second, 0 for none
+abbrev pub list_no : Option Given → ℕ
+list_no None = 0
+list_no (Some First) = 1
+list_no (Some Second) = 2
 
 -- 1 for the first list, 2 for the second, 0 for none: the list with the part's modifier, or a bare one whose registers
 -- all have the part

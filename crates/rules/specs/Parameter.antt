@@ -4,6 +4,7 @@ use Rattle.syntax.specs.declared.reader.Named.{Named}
 use Rattle.syntax.specs.Parameter.{ParameterRead}
 use Rattle.tables.specs.Tables.{count_of}
 use Rattle.tables.specs.Rules.{parameter_fault}
+use Rattle.rules.specs.Fault.{fault_of}
 use Rattle.rules.specs.State.{State, unless_broken, with_parameters}
 use Rattle.rules.specs.Names.{declared_before}
 use Rattle.rules.specs.Words.{word_of, appended}
@@ -21,7 +22,7 @@ parameter_entry d = word_of d.parameter.place ∷ word_of d.parameter.length ∷
 unfoldable pub added_parameter : State → ParameterRead → State
 added_parameter s d =
     let table : List ℕ = appended 36 s.parameters (parameter_entry d) in
-    with_parameters s table (record { number = parameter_fault table (count_of s.parameters); place = d.parameter.place })
+    with_parameters s table (fault_of (parameter_fault table (count_of s.parameters)) d.parameter.place)
 
 -- 6, then 8 and 12
 unfoldable pub judge_parameter : List ℕ → State → ParameterRead → State

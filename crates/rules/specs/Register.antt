@@ -1,7 +1,7 @@
 -- Judging a register: rules 6 to 10 and 12 in the order of document 01, and the entry that it gets.
-use Rattle.std.specs.Prelude.{ℕ, ◌+◌, Bool, true, false, ◌&&◌, ◌||◌, not, cond, List, [], ◌∷◌, ◌++◌, eqb, leb, pos, negsuc}
-use Rattle.expression.specs.declared.Worth.{Worth}
-use Rattle.expression.specs.declared.Worth.TheVariants.{Good, Bad}
+use Rattle.std.specs.Prelude.{ℕ, ◌+◌, Bool, ◌&&◌, ◌||◌, not, cond, List, [], ◌∷◌, ◌++◌, eqb, leb, pos, negsuc, Option, Some, None, is_some, unwrap_or}
+use Rattle.std.specs.Bool.{then_some}
+use Rattle.expression.specs.Value.{Worth}
 use Rattle.syntax.specs.declared.register.Port.{Port}
 use Rattle.syntax.specs.declared.register.Masks.{Masks}
 use Rattle.syntax.specs.declared.register.Register.{Register}
@@ -9,9 +9,8 @@ use Rattle.syntax.specs.Register.{is_masked}
 use Rattle.tables.specs.Tables.{count_of}
 use Rattle.tables.specs.Rules.{offset_in, register_fault}
 use Rattle.rules.specs.declared.fault.Fault.{Fault}
-use Rattle.rules.specs.declared.names.Found.{Found}
 use Rattle.rules.specs.declared.mask.Mask.{Mask}
-use Rattle.rules.specs.Fault.{fault_if, only, or_else}
+use Rattle.rules.specs.Fault.{fault_if, fault_of, only, or_else}
 use Rattle.rules.specs.State.{State, unless_broken, with_registers}
 use Rattle.rules.specs.Names.{name_of, parameter_named, is_nothing, index_of, declared_before}
 use Rattle.rules.specs.Words.{word_of, appended}
@@ -21,15 +20,16 @@ use Rattle.rules.specs.Mask.{mask_at}
 -- ── offsets ──
 
 -- an offset is a natural number; a bad expression is none
-unfoldable pub is_natural : Worth → Bool
-is_natural (Good (pos n)) = true
-is_natural (Good (negsuc n)) = false
-is_natural Bad = false
+unfoldable pub natural_in : Worth → Option ℕ
+natural_in (Some (pos n)) = Some n
+natural_in (Some (negsuc n)) = None
+natural_in None = None
 
-unfoldable pub natural_of : Worth → ℕ
-natural_of (Good (pos n)) = n
-natural_of (Good (negsuc n)) = 0
-natural_of Bad = 0
+abbrev pub is_natural : Worth → Bool
+is_natural worth = is_some (natural_in worth)
+
+abbrev pub natural_of : Worth → ℕ
+natural_of worth = unwrap_or (natural_in worth) 0
 
 -- ── pairing and masks ──
 
@@ -59,7 +59,7 @@ port_of r mark = cond (r.two && not (eqb r.first.mark mark)) r.second r.first
 
 -- the mask of a part of w bits: its own, or the bare one, or all dots
 unfoldable pub part_mask : List ℕ → ℕ → Masks → ℕ → ℕ → Mask
-part_mask text w masks own quote = mask_at text w (leb 1 (masks.bare + own)) (cond (eqb own 0) masks.whole quote)
+part_mask text w masks own quote = mask_at text w (then_some (leb 1 (masks.bare + own)) (cond (eqb own 0) masks.whole quote))
 
 -- present, parameter, offset, dots, fixed, ones; six zeros where the part is missing
 unfoldable pub part_entry : Bool → ℕ → ℕ → Mask → List ℕ
@@ -67,7 +67,7 @@ part_entry present index offset mask =
     cond present (1 ∷ word_of index ∷ word_of offset ∷ mask.dots ∷ mask.fixed ∷ mask.ones ∷ []) (0 ∷ 0 ∷ 0 ∷ 0 ∷ 0 ∷ 0 ∷ [])
 
 -- the parameter that a port names, among the parameters `ps`
-unfoldable pub port_found : List ℕ → List ℕ → Port → Found
+unfoldable pub port_found : List ℕ → List ℕ → Port → Option ℕ
 port_found text ps p = parameter_named text ps (name_of text p.place p.length)
 
 -- the words of a part: `mark` is its modifier, `other` the other part's; `own` and `quote` say of its own masks
@@ -84,16 +84,16 @@ register_entry text ps r =
 -- ── the rules ──
 
 -- 7, at the port's name
-unfoldable pub unknown_port : List ℕ → List ℕ → Port → Fault
+unfoldable pub unknown_port : List ℕ → List ℕ → Port → Option Fault
 unknown_port text ps p = fault_if (is_nothing (port_found text ps p)) 7 p.place
 
 -- 8, at the `@`, or at the declared name where the offset is left out
-unfoldable pub bad_offset : List ℕ → List ℕ → ℕ → Port → Fault
+unfoldable pub bad_offset : List ℕ → List ℕ → ℕ → Port → Option Fault
 bad_offset text ps place p =
-    fault_if (not (is_natural p.worth && offset_in ps (index_of (port_found text ps p)) (natural_of p.worth))) 8 (cond p.given p.sign place)
+    fault_if (not (is_natural p.worth && offset_in ps (index_of (port_found text ps p)) (natural_of p.worth))) 8 (unwrap_or p.sign place)
 
 -- 6 to 9, as the register is written
-unfoldable pub register_written : List ℕ → State → Register → Fault
+unfoldable pub register_written : List ℕ → State → Register → Option Fault
 register_written text s r =
     or_else (declared_before text s r.place r.length)
     (or_else (unknown_port text s.parameters r.first)
@@ -106,7 +106,7 @@ register_written text s r =
 unfoldable pub added_register : List ℕ → State → Register → State
 added_register text s r =
     let table : List ℕ = appended 15 s.registers (register_entry text s.parameters r) in
-    with_registers s table (record { number = register_fault s.parameters table (count_of s.registers); place = r.place })
+    with_registers s table (fault_of (register_fault s.parameters table (count_of s.registers)) r.place)
 
 -- 6 to 9, then 10 and 12
 unfoldable pub judge_register : List ℕ → State → Register → State

@@ -1,5 +1,5 @@
 -- Judging a variable: rules 6, 7 and 11 to 15 in the order of document 01, and the entry that it gets.
-use Rattle.std.specs.Prelude.{ℕ, ◌+◌, ◌≤◌, min, ◌≡◌, Bool, ◌&&◌, ◌||◌, not, cond, List, [], ◌∷◌, eqb, leb, set}
+use Rattle.std.specs.Prelude.{ℕ, ◌+◌, ◌≤◌, min, ◌≡◌, Bool, ◌&&◌, ◌||◌, not, cond, List, [], ◌∷◌, eqb, leb, set, Option, None}
 use Rattle.syntax.specs.declared.attribute.Behaviours.{Behaviours}
 use Rattle.syntax.specs.declared.variable.Variable.{Variable}
 use Rattle.syntax.specs.Variable.{VariableRead}
@@ -8,12 +8,12 @@ use Rattle.tables.specs.Scan.{Mapped}
 use Rattle.tables.specs.Rules.{variable_fault}
 use Rattle.rules.specs.declared.fault.Fault.{Fault}
 use Rattle.rules.specs.declared.variable.Early.{Early}
-use Rattle.rules.specs.Fault.{fault_if, or_else}
+use Rattle.rules.specs.Fault.{fault_if, fault_of, or_else}
 use Rattle.rules.specs.Words.{word_of, written}
 use Rattle.rules.specs.State.{State, unless_broken, with_variables}
 use Rattle.rules.specs.Modifiers.{at_most_one}
 use Rattle.rules.specs.Names.{declared_before, Fresh}
-use Rattle.rules.specs.Lists.{unknown_in, pieces_of, list_for, part_words}
+use Rattle.rules.specs.Lists.{unknown_in, pieces_of, list_no, list_for, part_words}
 
 -- ── the entry ──
 
@@ -68,19 +68,23 @@ module _ (text : List ℕ) (s : State) (it : VariableRead) where
   list_of p = list_for s.registers it.variable first_pieces p
 
   -- 6; 7 at the first name in the text
-  unfoldable pub name_fault : Fault
+  unfoldable pub name_fault : Option Fault
   name_fault =
       or_else (declared_before text s it.variable.place it.variable.length)
       (or_else (unknown_in text s.registers it.first it.variable.count)
       (unknown_in text s.registers it.second it.variable.rest.count))
 
   -- what breaks before there is an entry: 6, 7, then 11 by a bad pairing or by a bare list that gives neither part
-  unfoldable pub early_fault : Fault
+  unfoldable pub early_fault : Option Fault
   early_fault = or_else name_fault (fault_if (eqb (list_of 0) 0 && eqb (list_of 1) 0) 11 it.variable.place)
 
-  -- the same, with the lists that give the parts, and the pieces of the lists, as the code holds them
-  unfoldable pub early_of : Early
-  early_of = record { fault = early_fault; read = list_of 0; write = list_of 1; firsts = first_pieces; seconds = second_pieces }
+  -- what the code holds of it: the same, with the lists that give the parts, and the pieces of the lists
+  pub record EarlyOf (early : Early) : Type 0 where
+    pub fault : early.fault ≡ early_fault
+    pub read : list_no early.read ≡ list_of 0
+    pub write : list_no early.write ≡ list_of 1
+    pub firsts : early.firsts ≡ first_pieces
+    pub seconds : early.seconds ≡ second_pieces
 
   abbrev pub variables_with : List ℕ
   variables_with = with_variable s.variables it.variable first_pieces second_pieces (list_of 0) (list_of 1)
@@ -93,7 +97,7 @@ module _ (text : List ℕ) (s : State) (it : VariableRead) where
 
   -- the entry is written, then judged
   unfoldable pub added_variable : State
-  added_variable = with_variables s variables_with (fault_if (not (eqb late_number 0)) late_number it.variable.place)
+  added_variable = with_variables s variables_with (fault_of late_number it.variable.place)
 
   -- 6, 7 and 11 by the lists, then 11 to 15
   unfoldable pub judge_variable : State
@@ -110,5 +114,5 @@ pub record Asked (fresh : Bool) (text : List ℕ) (s : State) (d : Variable) : T
 -- ── the maps that the code carries ──
 
 -- those of the first n variables, where no rule is broken: nobody asks for them after a fault
-abbrev pub MappedUnless : ℕ → List ℕ → ℕ → List ℕ → List ℕ → Type 0
-MappedUnless number vs n reads writes = number ≡ 0 → Mapped vs n reads writes
+abbrev pub MappedUnless : Option Fault → List ℕ → ℕ → List ℕ → List ℕ → Type 0
+MappedUnless fault vs n reads writes = fault ≡ None → Mapped vs n reads writes

@@ -1,47 +1,27 @@
-// A rule that a declaration breaks.
+// A rule that a declaration breaks, or none. The first of two is `or` of them, so rules listed by it keep the order of
+// document 01.
 ghost use Rattle.std.specs.Prelude.{◌≡◌};
-ghost use Rattle.rules.specs.Fault.{no_fault, fault_if, or_else, is_fault};
-ghost use Rattle.rules.specs.Fault.{only as counts_only};
+ghost use Rattle.rules.specs.Fault.{fault_if, fault_of};
 
-// The number of the rule, 0 where none is broken, and the place that is named with it.
-#[derive(Clone, Copy)]
+// The number of the rule, and the place that is named with it.
+#[derive(Clone, Copy, PartialEq, Eq)]
 pub struct Fault {
     pub number: u32,
     pub place: usize,
 }
 
-pub fn no_fault() -> Fault
-    ensures { result ≡ no_fault }
-{
-    Fault {
-        number: 0,
-        place: 0,
-    }
-}
-
 // A rule broken at a place, if the test says so.
-pub fn fault_if(broken: bool, number: u32, place: usize) -> Fault
+#[tactic(auto, unfolding(crate::specs::Fault::fault_if))]
+pub fn fault_if(broken: bool, number: u32, place: usize) -> Option<Fault>
     ensures { result ≡ fault_if broken number place }
 {
-    only(broken, Fault { number, place })
+    broken.then_some(Fault { number, place })
 }
 
-// The first of two faults that is one. Rules listed by it keep the order of document 01.
-pub fn or_else(first: Fault, second: Fault) -> Fault
-    ensures { result ≡ or_else first second }
+// The rule of this number, broken at a place; 0 is no rule's.
+#[tactic(auto, unfolding(crate::specs::Fault::fault_of))]
+pub fn fault_of(number: u32, place: usize) -> Option<Fault>
+    ensures { result ≡ fault_of number place }
 {
-    if first.number == 0 { second } else { first }
-}
-
-// A fault that counts only where the test holds.
-pub fn only(test: bool, fault: Fault) -> Fault
-    ensures { result ≡ counts_only test fault }
-{
-    if test { fault } else { no_fault() }
-}
-
-pub fn is_fault(fault: Fault) -> bool
-    ensures { result ≡ is_fault fault }
-{
-    fault.number != 0
+    fault_if(number != 0, number, place)
 }

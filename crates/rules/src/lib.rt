@@ -15,4 +15,3 @@ pub mod words;
 
 pub use declared::Judging;
 pub use fault::Fault;
-pub use names::Found;

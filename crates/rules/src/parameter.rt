@@ -2,12 +2,12 @@
 ghost use Rattle.std.specs.Prelude.{◌≡◌, ◌<◌, ◌^◌, length};
 ghost use Rattle.rules.specs.State.{state_of, unless_stopped};
 ghost use Rattle.rules.specs.Words.{appended};
-ghost use Rattle.rules.specs.Parameter.{judge_device, parameter_entry, judge_parameter};
+ghost use Rattle.rules.specs.Parameter.{parameter_entry, judge_parameter};
 
-use crate::declared::{Judging, with_fault};
-use crate::fault::Fault;
-use crate::{declared, fault, words};
-use syntax::{Named, Parameter};
+use crate::declared::{Judging, Known};
+use crate::fault::fault_of;
+use crate::words;
+use syntax::Parameter;
 use tables::parameters;
 use tables::words::word;
 
@@ -42,26 +42,28 @@ pub fn judge_parameter(
     requires { length ranges.now < 2 ^ 32 }
     ensures { state_of result parameters.new registers.now variables.now ≡ unless_stopped (state_of judging parameters.old registers.now variables.now) (judge_parameter text.now (state_of judging parameters.old registers.now variables.now) (record { parameter = parameter; table = ranges.now })) }
 {
-    let so_far = judging.fault;
-    if fault::is_fault(so_far) {
+    if judging.fault.is_some() {
         return judging;
     }
-    let place = parameter.place;
-    let six = declared::declared_before(
+    let known = Known {
         text,
         judging,
         parameters,
         registers,
         variables,
-        place,
-        parameter.length,
-        false,
-    );
-    if fault::is_fault(six) {
-        return with_fault(judging, six);
+    };
+    let six = known.declared_before(parameter.place, parameter.length, false);
+    if six.is_some() {
+        return Judging {
+            fault: six,
+            ..judging
+        };
     }
     let count = word(parameters, 0);
     add_parameter(parameters, parameter, ranges);
     let number = parameters::parameter_fault(parameters, count);
-    with_fault(judging, Fault { number, place })
+    Judging {
+        fault: fault_of(number, parameter.place),
+        ..judging
+    }
 }

@@ -1,22 +1,19 @@
--- Lines and words lie inside what they are read from; and two lists compared byte by byte. Assumes nothing.
-use mathlib.Core.Bool.{true, false}
+-- Lines and words lie inside what they are read from. Assumes nothing.
 use mathlib.Core.List.{List, [], ◌∷◌}
-use mathlib.Core.Path.{◌≡◌, refl, sym, ap, ◌∙◌}
-use Prim.Native.Nat.{ℕ, zero, suc, ◌+◌, ◌-◌, ◌≤◌, ◌<◌}
+use mathlib.Core.Path.{◌≡◌, refl, sym, ap}
+use Prim.Native.Nat.{ℕ, zero, suc, ◌-◌, ◌≤◌, ◌<◌}
 use native.Mathlib.Omega.{arith}
-use lib.ListN.{length, get_or, drop, take, drop_of_length-le, length-drop, length-take}
+use lib.ListN.{length, drop, take, length-drop, length-take}
 use lib.Seq.{take_all}
-use borrow.Author.Tests.{eq-eqb, ne_eqb}
-use Rattle.token.specs.Bytes.{run_from, run_at, same}
-use Rattle.token.proofs.RunSteps.{to-come, run-after, run-within}
-use Rattle.script.specs.Words.{test_of, line_end, word_start, word_end, word_of, rest_of, ahead, words_up_to, words_of}
-use Rattle.script.specs.declared.words.Run.TheVariants.{Blanks, Word, Line}
+use Rattle.token.specs.Bytes.{run_from}
+use Rattle.token.proofs.RunSteps.{run-after, run-within}
+use Rattle.script.specs.Words.{is_blank, in_word, in_line, line_end, word_start, word_end, word_of, rest_of, ahead, words_up_to, words_of}
 
 pub line_on : (input : List ℕ) (at : ℕ) → at ≤ line_end input at
-line_on input at = run-after (test_of Line) input at
+line_on input at = run-after in_line input at
 
 pub line-inside : (input : List ℕ) (at : ℕ) → at ≤ length input → line_end input at ≤ length input
-line-inside input at h = run-within (test_of Line) input at h
+line-inside input at h = run-within in_line input at h
 
 -- a line that begins inside its input lies inside it
 pub line-within : (input : List ℕ) (at end : ℕ) → end ≡ line_end input at → at < length input → (at ≤ end) × (end ≤ length input)
@@ -26,10 +23,10 @@ line-within input at end is-end inside =
 
 -- the first word of a line lies inside it
 pub word-whole : (line : List ℕ) → word_start line ≤ word_end line
-word-whole line = run-after (test_of Word) line (word_start line)
+word-whole line = run-after in_word line (word_start line)
 
 pub word-inside : (line : List ℕ) → word_end line ≤ length line
-word-inside line = run-within (test_of Word) line (word_start line) (run-within (test_of Blanks) line 0 (omega arith))
+word-inside line = run-within in_word line (word_start line) (run-within is_blank line 0 (omega arith))
 
 word_room : (line : List ℕ) → 0 < length (word_of line) → 0 < word_end line
 unfolding word_of
@@ -45,16 +42,6 @@ rest-shorter line h = omega (arith, length-drop (word_end line) line, word-insid
 -- all that is left from a place on
 pub all_of : (l : List ℕ) (a : ℕ) → take (length l - a) (drop a l) ≡ drop a l
 all_of l a = let e : length (drop a l) ≡ length l - a = length-drop a l in take_all (length l - a) (drop a l) (omega arith)
-
--- the word and the rest, as the code cuts them out
-module _ (line : List ℕ) (start end : ℕ) (from : start ≡ word_start line) (to : end ≡ run_at (test_of Word) line start) where
-  pub word-is : take (end - start) (drop start line) ≡ word_of line
-  unfolding word_of
-  word-is = rw (to, from)
-
-  pub rest-is : take (length line - end) (drop end line) ≡ rest_of line
-  unfolding rest_of
-  rest-is = all_of line end ∙ rw (to, from)
 
 -- an empty line has no word
 none_of-nothing : (n : ℕ) → words_up_to n [] ≡ []
@@ -90,18 +77,3 @@ unfolding words_of words_up_to
 words-first line =
     let less = rest-no-longer line in
     ap (ahead (word_of line)) (words-enough (length line) (suc (length (rest_of line))) (rest_of line) less (omega arith))
-
--- two lists from place k on
-module _ (a b : List ℕ) (k : ℕ) where
-  pub same_end : length a ≤ k → length b ≤ k → same (drop k a) (drop k b) ≡ true
-  unfolding same
-  same_end ea eb = rw (drop_of_length-le a ea, drop_of_length-le b eb)
-
-  module _ (in-a : k < length a) (in_b : k < length b) where
-    pub same-on : get_or a k 0 ≡ get_or b k 0 → same (drop k a) (drop k b) ≡ same (drop (k + 1) a) (drop (k + 1) b)
-    unfolding same
-    same-on h = rw (to-come a k in-a, to-come b k in_b, eq-eqb (get_or a k 0) (get_or b k 0) h)
-
-    pub same_differs : (get_or a k 0 ≡ get_or b k 0 → ⊥) → same (drop k a) (drop k b) ≡ false
-    unfolding same
-    same_differs h = rw (to-come a k in-a, to-come b k in_b, ne_eqb (get_or a k 0) (get_or b k 0) h)

@@ -1,12 +1,10 @@
 -- A pattern of 64 bits, as a double has, written as sixteen hexadecimal digits, highest first.
-use Rattle.std.specs.Prelude.{cond, List, [], ◌∷◌, ℕ, zero, suc, ◌+◌, ◌/◌, ◌%◌, eqb, ltb, length}
+use Rattle.std.specs.Prelude.{cond, List, [], ◌∷◌, ℕ, zero, suc, ◌+◌, ◌/◌, ◌%◌, eqb, ltb, length, Option, None}
 use Rattle.script.specs.Numbers.{figures}
-use Rattle.script.specs.declared.numbers.Number.{Number}
-use Rattle.script.specs.declared.numbers.Number.TheVariants as number
 
 -- read: digits of either case
-unfoldable pub pattern_of : List ℕ → Number
-pattern_of word = cond (eqb (length word) 16) (figures 16 word) number.Nothing
+unfoldable pub pattern_of : List ℕ → Option ℕ
+pattern_of word = cond (eqb (length word) 16) (figures 16 word) None
 
 -- written: 0 to 9, then A to F
 unfoldable pub figure_of : ℕ → ℕ

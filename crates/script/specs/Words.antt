@@ -2,29 +2,28 @@
 use Rattle.std.specs.Prelude.{Bool, not, ◌||◌, List, [], ◌∷◌, ℕ, zero, suc, ◌-◌, eqb, length, take, drop}
 use Prim.Native.Char.{code}
 use Rattle.token.specs.Bytes.{run_at}
-use Rattle.script.specs.declared.words.Run.{Run}
-use Rattle.script.specs.declared.words.Run.TheVariants.{Blanks, Word, Line}
 
 -- what parts the words of a line
 abbrev pub is_blank : ℕ → Bool
 is_blank x = eqb x (code " ") || eqb x (code "\t")
 
--- blanks, what is none of them, and what ends no line
-unfoldable pub test_of : Run → ℕ → Bool
-test_of Blanks x = is_blank x
-test_of Word x = not (is_blank x)
-test_of Line x = not (eqb x (code "\n"))
+-- what a word is made of, and what ends no line
+abbrev pub in_word : ℕ → Bool
+in_word x = not (is_blank x)
+
+abbrev pub in_line : ℕ → Bool
+in_line x = not (eqb x (code "\n"))
 
 -- where the line at a place ends: at its newline, or with the input
 abbrev pub line_end : List ℕ → ℕ → ℕ
-line_end input at = run_at (test_of Line) input at
+line_end input at = run_at in_line input at
 
 -- where the first word of a line starts and ends
 abbrev pub word_start : List ℕ → ℕ
-word_start line = run_at (test_of Blanks) line 0
+word_start line = run_at is_blank line 0
 
 abbrev pub word_end : List ℕ → ℕ
-word_end line = run_at (test_of Word) line (word_start line)
+word_end line = run_at in_word line (word_start line)
 
 -- the first word, empty where there is none, and what follows it
 unfoldable pub word_of : List ℕ → List ℕ

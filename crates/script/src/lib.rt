@@ -5,6 +5,6 @@ mod numbers;
 mod patterns;
 mod words;
 
-pub use numbers::{Number, Value, number_of, value_of};
+pub use numbers::{number_of, value_of};
 pub use patterns::{digits_of, pattern_of};
 pub use words::{is, line_end, rest, word};

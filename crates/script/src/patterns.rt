@@ -2,15 +2,15 @@
 ghost use Rattle.std.specs.Prelude.{◌≡◌, ◌<◌};
 ghost use Rattle.script.specs.Patterns.{pattern_of, figure_of, digits_of};
 
-use crate::numbers::{Number, digits};
+use crate::numbers::digits;
 
-pub fn pattern_of(word: &[u8]) -> Number
+pub fn pattern_of(word: &[u8]) -> Option<u64>
     ensures { result ≡ pattern_of word.now }
 {
     if word.len() == 16 {
         digits(word, 16)
     } else {
-        Number::Nothing
+        None
     }
 }
 
@@ -31,9 +31,7 @@ pub fn digits_of(bits: u64) -> [u8; 16]
 {
     let mut spelled = [0u8; 16];
     let mut rest = bits;
-    let mut i: usize = 16;
-    while 0 < i {
-        i -= 1;
+    for i in (0..16).rev() {
         spelled[i] = figure(rest % 16);
         rest /= 16;
     }

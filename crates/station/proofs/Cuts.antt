@@ -10,9 +10,12 @@ use lib.Dec.{ltb}
 use lib.ListN.{length, get_or, length-append, get_or-append}
 use lib.Seq.{get_or-append-add}
 use borrow.Author.Tests.{ltb-true, ltb-false}
+use Rattle.std.specs.List.{EachIndex, slice_index}
+use Rattle.std.proofs.lemmas.Grind.{same_number_lists}
 use Rattle.bits.specs.Bits.{bit}
 use Rattle.bits.proofs.BitLaws.{number-low, bit-number}
 use Rattle.tables.specs.View.{Tables, register_width}
+use Rattle.station.specs.Station.{power_of}
 use Rattle.station.specs.Calls.{cut_to, numbers_in}
 
 pub numbers-long : (t : Tables) (power : List ℕ) (n : ℕ) → length (numbers_in t power n) ≡ n
@@ -39,6 +42,14 @@ numbers-at t power (suc n) r l = go (λ m. numbers-at t power n r m) (ltb r n) r
         let here : r ≡ length (numbers_in t power n) + 0 = omega (arith, long) in
         ap (λ (i : ℕ). get_or (numbers_in t power n ++ last) i 0) here ∙ get_or-append-add (numbers_in t power n) last 0 0
         ∙ ap (λ (i : ℕ). cut_to t i (get_or power i 0)) (sym same)
+
+-- a list that has at each place what an opening keeps there
+pub numbers-are : (t : Tables) (power : List ℕ) (n : ℕ) (held : List ℕ) → length held ≡ n
+    → EachIndex held (λ r. slice_index held r ≡ power_of t.registers power r) → held ≡ numbers_in t power n
+unfolding cut_to register_width
+numbers-are t power n held long each =
+    same_number_lists held (numbers_in t power n) (long ∙ sym (numbers-long t power n))
+    (λ k l. each k l ∙ sym (numbers-at t power n k (omega (arith, long))))
 
 -- a number of the register's width is not changed
 pub cut_small : (t : Tables) (r x : ℕ) → x < 2 ^ register_width t r → cut_to t r x ≡ x

@@ -4,9 +4,9 @@ ghost use Rattle.tables.specs.View.{sound};
 ghost use Rattle.station.specs.Calls.{abandon};
 ghost use Rattle.station.specs.Promise.{lent, Meets};
 
-use crate::outcomes::{refuse, stop};
-use crate::standing::fault;
-use crate::{Operation, Outcome};
+use crate::refusal::Refusal;
+use crate::standing::Lent;
+use crate::{Answer, Operation, Outcome};
 
 // Ends the operation in hand. The access on offer may have been performed or not, so a write leaves its variable
 // half-written.
@@ -24,26 +24,21 @@ pub fn abandon(
         (lent held.now marks.old operation))
         held.now marks.new result }
 {
-    let bytes = held.len();
-    let flags = marks.len();
-    let number = fault(parameters, registers, variables, bytes, flags, operation);
-    if number != 0 {
-        return refuse(operation, number);
+    let lent = Lent {
+        parameters,
+        registers,
+        variables,
+        held: held.len(),
+        marks: marks.len(),
+        operation,
+    };
+    if let Err(why) = lent.check() {
+        return Outcome::refused(operation, why);
     }
     match operation {
-        Operation::Idle => refuse(operation, 24),
-        Operation::Reading {
-            variable: _,
-            step: _,
-            gathered: _,
-        } => stop(),
-        Operation::Writing {
-            variable,
-            step: _,
-            value: _,
-        } => {
-            marks[variable] = 1;
-            stop()
-        }
+        Operation::Idle => return Outcome::refused(operation, Refusal::NoneInHand),
+        Operation::Reading { .. } => {}
+        Operation::Writing { variable, .. } => marks[variable] = 1,
     }
+    Outcome::over(Answer::Abandoned)
 }

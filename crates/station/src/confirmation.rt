@@ -2,131 +2,103 @@
 // the read is over.
 ghost use Rattle.std.specs.Prelude.{◌≡◌, ◌+◌, ◌≤◌, ◌<◌, ◌^◌, length};
 ghost use Rattle.tables.specs.Words.{word_at};
-ghost use Rattle.station.specs.Variable.{width_of, access_count, Ready};
+ghost use Rattle.station.specs.Variable.{width_of, access_count};
 ghost use Rattle.station.specs.Standing.{tables_of};
 ghost use Rattle.station.specs.Station.{Leaves, next_read, after_read, next_write, held_after};
 ghost use Rattle.tables.specs.View.{sound};
 ghost use Rattle.station.specs.Calls.{confirm};
 ghost use Rattle.station.specs.Promise.{lent, Meets};
 
-use crate::accesses::{byte_to_write, fits_mask, gather_byte};
-use crate::outcomes::{contradict, finish, offer_read, offer_write, refuse};
-use crate::standing::fault;
-use crate::variable::{access_count, register_of};
+use crate::refusal::Refusal;
+use crate::standing::Lent;
+use crate::variable::{Variable, fits_mask};
 use crate::{Operation, Outcome};
+use tables::Part;
 
 // `step` accesses of the read are confirmed: the next is offered, or none is left and the read is done.
-fn next_read(
-    registers: &[u32],
-    variables: &[u32],
-    v: usize,
-    step: usize,
-    gathered: usize,
-) -> Outcome
-    requires ready { Ready registers.now variables.now v 0 }
-    requires step_bound { step ≤ access_count variables.now v 0 }
-    requires gathered_bound { gathered < 2 ^ width_of variables.now v }
-    ensures { result ≡ next_read registers.now variables.now v step gathered }
+#[tactic(auto, unfolding(crate::specs::Station::next_read))]
+fn next_read(variable: &Variable, step: usize, gathered: usize) -> Outcome
+    requires { gathered < 2 ^ width_of variable.now.variables.now variable.now.number }
+    ensures { result ≡ next_read variable.now.registers.now variable.now.variables.now variable.now.number
+        step gathered }
 {
-    let unread = access_count(variables, v, 0) - step;
-    if 0 < unread {
-        offer_read(registers, variables, v, step, gathered)
+    if step < variable.access_count(Part::Read) {
+        variable.offer_read(step, gathered)
     } else {
-        finish(variables, v, 0, gathered)
+        variable.finish(Part::Read, gathered)
     }
 }
 
 // `step` accesses of the write are confirmed: the next is offered, or none is left, the write is done and its mark
 // cleared.
+#[tactic(auto, unfolding(crate::specs::Station::next_write))]
 fn next_write(
-    registers: &[u32],
-    variables: &[u32],
+    variable: &Variable,
     held: &[u32],
     marks: &mut [u8],
-    v: usize,
     step: usize,
     value: usize,
 ) -> Outcome
-    requires ready { Ready registers.now variables.now v 1 }
-    requires step_bound { step ≤ access_count variables.now v 1 }
-    requires v_in_bounds { v < length marks.old }
-    requires value_bound { value < 2 ^ width_of variables.now v }
-    ensures { Leaves (next_write registers.now variables.now held.now marks.old v step value)
+    requires v_in_bounds { variable.now.number < length marks.old }
+    requires value_bound { value < 2 ^ width_of variable.now.variables.now variable.now.number }
+    ensures { Leaves
+        (next_write variable.now.registers.now variable.now.variables.now held.now marks.old
+        variable.now.number step value)
         held.now marks.new result }
 {
-    let unwritten = access_count(variables, v, 1) - step;
-    if 0 < unwritten {
-        return offer_write(registers, variables, held, v, step, value);
+    if step < variable.access_count(Part::Write) {
+        return variable.offer_write(held, step, value);
     }
-    marks[v] = 0;
-    finish(variables, v, 1, value)
+    marks[variable.number] = 0;
+    variable.finish(Part::Write, value)
 }
 
 // The record takes the byte of the access that is confirmed.
-fn record_byte(
-    registers: &[u32],
-    variables: &[u32],
-    held: &mut [u32],
-    v: usize,
-    step: usize,
-    value: usize,
-)
-    requires ready { Ready registers.now variables.now v 1 }
-    requires step_bound { step < access_count variables.now v 1 }
-    requires registers_in_bounds { word_at registers.now 0 ≤ length held.old }
-    ensures { held.new ≡ held_after registers.now variables.now held.old v step value }
+#[tactic(auto, unfolding(crate::specs::Station::held_after))]
+fn record_byte(variable: &Variable, held: &mut [u32], step: usize, value: usize)
+    requires step_bound { step < access_count variable.now.variables.now variable.now.number 1 }
+    requires registers_in_bounds { word_at variable.now.registers.now 0 ≤ length held.old }
+    ensures { held.new ≡ held_after variable.now.registers.now variable.now.variables.now held.old
+        variable.now.number step value }
 {
-    let r = register_of(variables, v, 1, step);
-    let byte = byte_to_write(registers, variables, held, v, value, r);
-    held[r] = byte;
+    let register = variable.register_at(Part::Write, step);
+    held[register] = variable.byte_to_write(held, value, register);
 }
 
 // An access of the read in hand is confirmed, and brought this byte: its fixed bits are compared first of all.
-fn confirm_read(
-    registers: &[u32],
-    variables: &[u32],
-    v: usize,
-    step: usize,
-    gathered: usize,
-    byte: u32,
-) -> Outcome
-    requires ready { Ready registers.now variables.now v 0 }
-    requires step_bound { step < access_count variables.now v 0 }
-    ensures { result ≡ after_read registers.now variables.now v step gathered byte }
+#[tactic(auto, unfolding(crate::specs::Station::after_read))]
+fn confirm_read(variable: &Variable, step: usize, gathered: usize, byte: u32) -> Outcome
+    requires { step < access_count variable.now.variables.now variable.now.number 0 }
+    ensures { result ≡ after_read variable.now.registers.now variable.now.variables.now variable.now.number
+        step gathered byte }
 {
-    let register = register_of(variables, v, 0, step);
-    if !fits_mask(registers, register, byte) {
-        return contradict(register);
+    let register = variable.register_at(Part::Read, step);
+    if !fits_mask(variable.registers, register, byte) {
+        return Outcome::contradicted(register);
     }
-    let next = step + 1;
-    let value = gather_byte(variables, v, step, gathered, byte);
-    next_read(registers, variables, v, next, value)
+    next_read(variable, step + 1, variable.gather(step, gathered, byte))
 }
 
 // An access of the write in hand is confirmed: only now does the record take its byte.
 fn confirm_write(
-    registers: &[u32],
-    variables: &[u32],
+    variable: &Variable,
     held: &mut [u32],
     marks: &mut [u8],
-    v: usize,
     step: usize,
     value: usize,
 ) -> Outcome
-    requires ready { Ready registers.now variables.now v 1 }
-    requires step_bound { step < access_count variables.now v 1 }
-    requires registers_in_bounds { word_at registers.now 0 ≤ length held.old }
-    requires v_in_bounds { v < length marks.old }
-    requires value_bound { value < 2 ^ width_of variables.now v }
+    requires step_bound { step < access_count variable.now.variables.now variable.now.number 1 }
+    requires registers_in_bounds { word_at variable.now.registers.now 0 ≤ length held.old }
+    requires v_in_bounds { variable.now.number < length marks.old }
+    requires value_bound { value < 2 ^ width_of variable.now.variables.now variable.now.number }
     ensures { Leaves
-        (next_write registers.now variables.now
-        (held_after registers.now variables.now held.old v step value)
-        marks.old v (step + 1) value)
+        (next_write variable.now.registers.now variable.now.variables.now
+        (held_after variable.now.registers.now variable.now.variables.now held.old variable.now.number step value)
+        marks.old variable.now.number (step + 1) value)
         held.new marks.new result }
 {
-    let next = step + 1;
-    record_byte(registers, variables, held, v, step, value);
-    next_write(registers, variables, held, marks, v, next, value)
+    record_byte(variable, held, step, value);
+    next_write(variable, held, marks, step + 1, value)
 }
 
 // The access on offer was performed, and brought this byte: the answer offers the next one, or says done.
@@ -140,29 +112,32 @@ pub fn confirm(
     byte: u32,
 ) -> Outcome
     ensures { Meets
-        (confirm sound
-        (tables_of parameters.now registers.now variables.now)
-        (lent held.old marks.old operation)
-        byte)
+        (confirm sound (tables_of parameters.now registers.now variables.now)
+        (lent held.old marks.old operation) byte)
         held.new marks.new result }
 {
-    let bytes = held.len();
-    let flags = marks.len();
-    let number = fault(parameters, registers, variables, bytes, flags, operation);
-    if number != 0 {
-        return refuse(operation, number);
+    let lent = Lent {
+        parameters,
+        registers,
+        variables,
+        held: held.len(),
+        marks: marks.len(),
+        operation,
+    };
+    if let Err(why) = lent.check() {
+        return Outcome::refused(operation, why);
     }
     match operation {
-        Operation::Idle => refuse(operation, 24),
+        Operation::Idle => Outcome::refused(operation, Refusal::NoneInHand),
         Operation::Reading {
             variable,
             step,
             gathered,
-        } => confirm_read(registers, variables, variable, step, gathered, byte),
+        } => confirm_read(&lent.variable(variable), step, gathered, byte),
         Operation::Writing {
             variable,
             step,
             value,
-        } => confirm_write(registers, variables, held, marks, variable, step, value),
+        } => confirm_write(&lent.variable(variable), held, marks, step, value),
     }
 }

@@ -9,8 +9,8 @@ use borrow.Author.Tests.{eqb-true, eqb-false}
 use Rattle.token.specs.Scan.{scan_at}
 use Rattle.grammar.specs.Grammar.{Grammar, ◌▸◌, ◌∣◌}
 use Rattle.grammar.specs.Check.{nullable, first}
-use Rattle.syntax.specs.declared.reader.Step.{Step}
-use Rattle.syntax.specs.declared.reader.Step.TheVariants.{At, Refused}
+use Rattle.syntax.specs.Step.{Step}
+use Rattle.std.specs.Prelude.{Ok, Err}
 use Rattle.syntax.specs.Reader.{unexpected}
 use Rattle.syntax.proofs.Factored.{rules}
 use Rattle.syntax.proofs.Follows.{Fits, Follows, then_at, kind_at, then-seq-at, stopped-kind}
@@ -21,7 +21,7 @@ module _ (text : List ℕ) where
   pub alt-follows : (k : ℕ) (a b : Grammar) {f h : Step → Step} → So (not (nullable a)) → So (not (nullable b)) → first rules a ≡ k ∷ [] → eqb 255 k ≡ false → Follows text a f → Follows text b h
       → (r : Step → Step) → ((s : Step) → eqb (kind_at text s) k ≡ true → r s ≡ f s) → ((s : Step) → eqb (kind_at text s) k ≡ false → r s ≡ h s) → Follows text (a ∣ b) r
   alt-follows k a b {f} {h} na nb tells e ra rb r on off = record {
-    stays = λ n p. off (Refused n p) (stopped-kind text n p k e) ∙ rb.stays n p;
+    stays = λ stop. off (Err stop) (stopped-kind text stop k e) ∙ rb.stays stop;
     fits = λ s. by s (eqb (kind_at text s) k) refl;
   }
     where
@@ -31,11 +31,11 @@ module _ (text : List ℕ) where
 
   -- at a token of no such kind the grammar stops
   abbrev pub Refuses : ℕ → Grammar → Type 0
-  Refuses k a = (at : ℕ) → (kind_at text (At at) ≡ k → ⊥) → then_at text a (At at) ≡ unexpected (scan_at text at).token
+  Refuses k a = (at : ℕ) → (kind_at text (Ok at) ≡ k → ⊥) → then_at text a (Ok at) ≡ unexpected (scan_at text at).token
 
   pub seq-refused : (k : ℕ) (a b : Grammar) → Refuses k a → Refuses k (a ▸ b)
   unfolding then_at unexpected
-  seq-refused k a b r at i = then-seq-at text a b (At at) ∙ ap (λ (t : Step). then_at text b t) (r at i)
+  seq-refused k a b r at i = then-seq-at text a b (Ok at) ∙ ap (λ (t : Step). then_at text b t) (r at i)
 
   -- a choice that the second's kind tells: where neither can begin, both are refused alike
   pub alt-follows-second : (j k : ℕ) (a b : Grammar) {f h : Step → Step} → So (not (nullable a)) → So (not (nullable b)) → first rules a ≡ j ∷ []
@@ -43,13 +43,13 @@ module _ (text : List ℕ) where
       → (r : Step → Step) → ((s : Step) → eqb (kind_at text s) k ≡ true → r s ≡ h s) → ((s : Step) → eqb (kind_at text s) k ≡ false → r s ≡ f s) → Follows text (a ∣ b) r
   unfolding then_at
   alt-follows-second j k a b {f} {h} na nb tells e g apart no-a no-b ra rb r on off = record {
-    stays = λ n p. off (Refused n p) (stopped-kind text n p k g) ∙ ra.stays n p;
+    stays = λ stop. off (Err stop) (stopped-kind text stop k g) ∙ ra.stays stop;
     fits = λ s. by s (eqb (kind_at text s) k) refl (eqb (kind_at text s) j) refl;
   }
     where
       neither : (s : Step) → (kind_at text s ≡ j → ⊥) → (kind_at text s ≡ k → ⊥) → then_at text a s ≡ then_at text b s
-      neither (At at) x y = no-a at x ∙ sym (no-b at y)
-      neither (Refused n p) x y = refl
+      neither (Ok at) x y = no-a at x ∙ sym (no-b at y)
+      neither (Err stop) x y = refl
 
       fit : (s t : Step) → r s ≡ t → (c : Grammar) → then_at text (a ∣ b) s ≡ then_at text c s → Fits text t (then_at text c s) → Fits text (r s) (then_at text (a ∣ b) s)
       fit s t is c same fits = subst (λ (u : Step). Fits text u (then_at text (a ∣ b) s)) (sym is) (subst (λ (u : Step). Fits text t u) (sym same) fits)

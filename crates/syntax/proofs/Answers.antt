@@ -7,8 +7,12 @@ use mathlib.Core.Logic.{◌↔◌, inl, inr}
 use mathlib.Core.List.{List, []}
 use lib.ListN.{length}
 use mathlib.Core.Option.{Option, none, none-ne-some, some-injective}
-use Rattle.syntax.specs.declared.reader.Step.{Step}
-use Rattle.syntax.specs.declared.reader.Step.TheVariants.{At, Refused}
+use Rattle.std.specs.Prelude.{Ok, Err}
+use Rattle.token.specs.declared.Reason.{Reason}
+use Rattle.token.specs.declared.Reason.TheVariants.{NoToken, Unexpected, TooMuch}
+use Rattle.token.specs.declared.Refusal.{Refusal}
+use Rattle.token.specs.Kind.{number_of}
+use Rattle.syntax.specs.Step.{Step, too_much_at}
 use Rattle.syntax.specs.Sizes.{passed_at, NotBefore, Kept}
 use Rattle.syntax.specs.Claim.{token_no, InLanguage, Stops, Passes, Right}
 use Rattle.syntax.specs.Text.{Declaration, reading_with, listed, reading}
@@ -17,6 +21,21 @@ use Rattle.syntax.proofs.TextFollows.{reading-grammatical}
 use Rattle.syntax.proofs.Tally.{not_five}
 use Rattle.syntax.proofs.TallyText.{sizes-kept}
 
+-- a refusal is known by its number and its place
+same_reason : (a b : Reason) → number_of a ≡ number_of b → a ≡ b
+same_reason NoToken NoToken e = refl
+same_reason NoToken Unexpected e = absurd (omega arith)
+same_reason NoToken TooMuch e = absurd (omega arith)
+same_reason Unexpected NoToken e = absurd (omega arith)
+same_reason Unexpected Unexpected e = refl
+same_reason Unexpected TooMuch e = absurd (omega arith)
+same_reason TooMuch NoToken e = absurd (omega arith)
+same_reason TooMuch Unexpected e = absurd (omega arith)
+same_reason TooMuch TooMuch e = refl
+
+same_refusal : (a b : Refusal) → number_of a.why ≡ number_of b.why → a.place ≡ b.place → ◌≡◌ {A = Step} (Err a) (Err b)
+same_refusal a b e g = let w : a ≡ b = rw (same_reason a.why b.why e, g) in ap Err w
+
 module _ (text : List ℕ) where
   stops-not_five : (n p : ℕ) → Stops text n p → n ≡ 5 → ⊥
   stops-not_five n p s e = not_five (token_no text s.token) (sym s.number_is ∙ e)
@@ -24,11 +43,11 @@ module _ (text : List ℕ) where
   -- what the grammar and the sizes say, each for itself, is the claim
   both_right : (s : Step) → ByGrammar text s → Kept (passed_at text) s → Right text s
   unfolding ByGrammar Kept Right
-  both_right (At end) g z = (g.0, g.1, z)
-  both_right (Refused n p) (inl s) (inl z) = absurd (stops-not_five n p s z.0)
-  both_right (Refused n p) (inl s) (inr z) = inl (s, z.1)
-  both_right (Refused n p) (inr g) (inl z) = inr (record { is-five = z.0; is-passed = z.1; earlier = g.1 })
-  both_right (Refused n p) (inr g) (inr z) = absurd (z.0 g.0)
+  both_right (Ok end) g z = (g.0, g.1, z)
+  both_right (Err stop) (inl s) (inl z) = absurd (stops-not_five _ _ s z.0)
+  both_right (Err stop) (inl s) (inr z) = inl (s, z.1)
+  both_right (Err stop) (inr g) (inl z) = inr (record { is-five = z.0; is-passed = z.1; earlier = g.1 })
+  both_right (Err stop) (inr g) (inr z) = absurd (z.0 g.0)
 
   -- a stop and a size that is passed are not both first
   apart : (n p m q : ℕ) → Stops text n p → NotBefore (passed_at text) p → Passes text m q → ⊥
@@ -39,17 +58,15 @@ module _ (text : List ℕ) where
   -- NO SECOND ANSWER IS RIGHT.
   pub right-once : (s t : Step) → Right text s → Right text t → s ≡ t
   unfolding Right
-  right-once (At a) (At b) r q = ap At (r.0 ∙ sym q.0)
-  right-once (At a) (Refused n p) r (inl q) = absurd (q.0.stops.no_text r.1)
-  right-once (At a) (Refused n p) r (inr q) = absurd (none-ne-some _ (sym r.2 ∙ q.is-passed))
-  right-once (Refused n p) (At b) (inl r) q = absurd (r.0.stops.no_text q.1)
-  right-once (Refused n p) (At b) (inr r) q = absurd (none-ne-some _ (sym q.2 ∙ r.is-passed))
-  right-once (Refused n p) (Refused m q) (inl r) (inl s) = let z = stops-once text n p m q r.0 s.0 in rw (z.0, z.1)
-  right-once (Refused n p) (Refused m q) (inl r) (inr s) = absurd (apart n p m q r.0 r.1 s)
-  right-once (Refused n p) (Refused m q) (inr r) (inl s) = absurd (apart m q n p s.0 s.1 r)
-  right-once (Refused n p) (Refused m q) (inr r) (inr s) =
-      let z : p ≡ q = some-injective _ _ (sym r.is-passed ∙ s.is-passed) in
-      rw (r.is-five, s.is-five, z)
+  right-once (Ok a) (Ok b) r q = ap Ok (r.0 ∙ sym q.0)
+  right-once (Ok a) (Err stop) r (inl q) = absurd (q.0.stops.no_text r.1)
+  right-once (Ok a) (Err stop) r (inr q) = absurd (none-ne-some _ (sym r.2 ∙ q.is-passed))
+  right-once (Err stop) (Ok b) (inl r) q = absurd (r.0.stops.no_text q.1)
+  right-once (Err stop) (Ok b) (inr r) q = absurd (none-ne-some _ (sym q.2 ∙ r.is-passed))
+  right-once (Err a) (Err b) (inl r) (inl s) = let z = stops-once text _ _ _ _ r.0 s.0 in same_refusal a b z.0 z.1
+  right-once (Err a) (Err b) (inl r) (inr s) = absurd (apart _ _ _ _ r.0 r.1 s)
+  right-once (Err a) (Err b) (inr r) (inl s) = absurd (apart _ _ _ _ s.0 s.1 r)
+  right-once (Err a) (Err b) (inr r) (inr s) = same_refusal a b (r.is-five ∙ sym s.is-five) (some-injective _ _ (sym r.is-passed ∙ s.is-passed))
 
   -- The reading of a text, whatever is made of its declarations, answers rightly.
   pub reading-right : {X : Type 0} (judge : X → Declaration → X) (x : X) → Right text (reading_with judge text x).step
@@ -64,24 +81,25 @@ module _ (text : List ℕ) where
   -- ---- its three cases, one by one
 
   -- A text reads exactly when its tokens are a text of the published grammar and no size is passed.
-  pub reads-exactly : ((reading text).step ≡ At (length text)) ↔ (InLanguage text × (passed_at text ≡ none))
+  pub reads-exactly : ((reading text).step ≡ Ok (length text)) ↔ (InLanguage text × (passed_at text ≡ none))
   unfolding Right
-  reads-exactly = (λ e. let r = (answers-exactly (At (length text))).0 e in (r.1, r.2), λ r. (answers-exactly (At (length text))).1 (refl, r.0, r.1))
+  reads-exactly = (λ e. let r = (answers-exactly (Ok (length text))).0 e in (r.1, r.2), λ r. (answers-exactly (Ok (length text))).1 (refl, r.0, r.1))
 
   -- Refusals 3 and 4 are given exactly where no text of the grammar goes on, if no size is passed before.
-  pub stops-exactly : (n p : ℕ) → (((reading text).step ≡ Refused n p) × (n ≡ 5 → ⊥)) ↔ (Stops text n p × NotBefore (passed_at text) p)
+  pub stops-exactly : (stop : Refusal)
+      → (((reading text).step ≡ Err stop) × (number_of stop.why ≡ 5 → ⊥)) ↔ (Stops text (number_of stop.why) stop.place × NotBefore (passed_at text) stop.place)
   unfolding Right
-  stops-exactly n p = (λ e. by ((answers-exactly (Refused n p)).0 e.0) e.1, λ r. ((answers-exactly (Refused n p)).1 (inl r), stops-not_five n p r.0))
+  stops-exactly stop = (λ e. by ((answers-exactly (Err stop)).0 e.0) e.1, λ r. ((answers-exactly (Err stop)).1 (inl r), stops-not_five _ _ r.0))
     where
-      by : Right text (Refused n p) → (n ≡ 5 → ⊥) → Stops text n p × NotBefore (passed_at text) p
+      by : Right text (Err stop) → (number_of stop.why ≡ 5 → ⊥) → Stops text (number_of stop.why) stop.place × NotBefore (passed_at text) stop.place
       by (inl r) other = r
       by (inr r) other = absurd (other r.is-five)
 
   -- Refusal 5 is given exactly at the first token that passes a size, if the grammar goes on past it.
-  pub passes-exactly : (p : ℕ) → ((reading text).step ≡ Refused 5 p) ↔ Passes text 5 p
+  pub passes-exactly : (p : ℕ) → ((reading text).step ≡ too_much_at p) ↔ Passes text 5 p
   unfolding Right
-  passes-exactly p = (λ e. by ((answers-exactly (Refused 5 p)).0 e), λ r. (answers-exactly (Refused 5 p)).1 (inr r))
+  passes-exactly p = (λ e. by ((answers-exactly (too_much_at p)).0 e), λ r. (answers-exactly (too_much_at p)).1 (inr r))
     where
-      by : Right text (Refused 5 p) → Passes text 5 p
+      by : Right text (too_much_at p) → Passes text 5 p
       by (inl r) = absurd (stops-not_five 5 p r.0 refl)
       by (inr r) = r

@@ -13,7 +13,7 @@ use Rattle.token.specs.declared.Token.{Token}
 use Rattle.token.specs.declared.Token.TheVariants.{Name, Word, Number, Bits, Sign, End, Bad}
 use Rattle.token.specs.Scan.{scan_at}
 use Rattle.token.specs.Fair.{place_of, goes_on_lem, Whole}
-use Rattle.token.specs.Kind.{kind_of, refused_as}
+use Rattle.token.specs.Kind.{kind_of, refused_as, number_of}
 use Rattle.token.proofs.Laws.{scan-fair}
 use Rattle.grammar.specs.Grammar.{Text, StopsAt}
 use Rattle.syntax.specs.Published.{published, device-spec}
@@ -23,8 +23,8 @@ use Rattle.grammar.specs.Parser.{stopped}
 use Rattle.grammar.specs.Places.{walk, then, Outcome, Passed, Halted}
 use Rattle.grammar.proofs.Verdicts.{whole-accepted, whole-left, whole-halted}
 use Rattle.syntax.proofs.Verdicts.{accepted-published, stopped-published}
-use Rattle.syntax.specs.declared.reader.Step.{Step}
-use Rattle.syntax.specs.declared.reader.Step.TheVariants.{At, Refused}
+use Rattle.syntax.specs.Step.{Step}
+use Rattle.std.specs.Prelude.{Ok, Err}
 use Rattle.syntax.specs.Reader.{unexpected, fixed_after}
 use Rattle.syntax.specs.Claim.{kinds_of, token_no, InLanguage, Stops}
 use Rattle.syntax.proofs.Source.{source, kinds_at, told, kinds-end, kinds-are, token-is}
@@ -45,8 +45,8 @@ module _ (text : List ℕ) where
 
   -- What the grammar says of an answer, sizes aside.
   unfoldable pub ByGrammar : Step → Type 0
-  ByGrammar (At end) = (end ≡ length text) × InLanguage text
-  ByGrammar (Refused number place) = Stops text number place ⊎ ((number ≡ 5) × ((n p : ℕ) → Stops text n p → place < p))
+  ByGrammar (Ok end) = (end ≡ length text) × InLanguage text
+  ByGrammar (Err stop) = Stops text (number_of stop.why) stop.place ⊎ ((number_of stop.why ≡ 5) × ((n p : ℕ) → Stops text n p → stop.place < p))
 
   -- a token where the language stops, as the reader finds it
   stops_at : (k q : ℕ) → StopsAt (Text published device-spec) (kinds_of text) k → q ≡ walk (source text) k 0
@@ -66,13 +66,13 @@ module _ (text : List ℕ) where
   published-stop : (k : ℕ) → StopsAt (Text published device-spec) (kinds_at text 0) k → StopsAt (Text published device-spec) (kinds_of text) k
   published-stop k = subst (λ (ts : List ℕ). StopsAt (Text published device-spec) ts k) (kinds-are text)
 
-  passed-right : (q : ℕ) → then rules (source text) device-ll (Passed 0) ≡ Passed q → ByGrammar (fixed_after text 255 (At q))
+  passed-right : (q : ℕ) → then rules (source text) device-ll (Passed 0) ≡ Passed q → ByGrammar (fixed_after text 255 (Ok q))
   unfolding ByGrammar fixed_after unexpected
   passed-right q e = by (eqb (kind_of (scan_at text q).token) 255) refl (told text q)
     where
       by : (c : Bool) → eqb (kind_of (scan_at text q).token) 255 ≡ c
           → ((kinds_at text q ≡ []) × (kind_of (scan_at text q).token ≡ 255)) ⊎ (kinds_at text q ≡ kind_of (scan_at text q).token ∷ kinds_at text (scan_at text q).next)
-          → ByGrammar (cond c (At (scan_at text q).next) (unexpected (scan_at text q).token))
+          → ByGrammar (cond c (Ok (scan_at text q).next) (unexpected (scan_at text q).token))
       by true i t =
           let z = ends (length text) (scan_at text q).next (scan_at text q).token (eqb-true _ 255 i) (scan-fair text q).whole in
           (z.1, published-text ((accepted-published (kinds_at text 0)).0 (whole-accepted rules rules-pass device-ll (source text) 0 q e (kinds-end text q z.0))))
@@ -102,24 +102,24 @@ module _ (text : List ℕ) where
   -- a place that the grammar goes beyond is before the token where it stops
   before-stop : (place : ℕ) (t : Step) → ByGrammar (fixed_after text 255 t) → Beyond text place t → (n p : ℕ) → Stops text n p → place < p
   unfolding ByGrammar fixed_after Beyond unexpected
-  before-stop place (At q) g b n p s = by (eqb (kind_of (scan_at text q).token) 255) g
+  before-stop place (Ok q) g b n p s = by (eqb (kind_of (scan_at text q).token) 255) g
     where
-      by : (c : Bool) → ByGrammar (cond c (At (scan_at text q).next) (unexpected (scan_at text q).token)) → place < p
+      by : (c : Bool) → ByGrammar (cond c (Ok (scan_at text q).next) (unexpected (scan_at text q).token)) → place < p
       by true r = absurd (s.stops.no_text r.1)
       by false (inl r) = omega (arith, b.0, b.1, (scan-fair text q).from, (stops-once _ _ n p r s).1)
       by false (inr r) = omega (arith, b.0, b.1, (scan-fair text q).from, r.1 n p s)
-  before-stop place (Refused m q) (inl r) b n p s = omega (arith, (stops-once m q n p r s).1)
-  before-stop place (Refused m q) (inr r) b n p s = omega (arith, r.1 n p s)
+  before-stop place (Err stop) (inl r) b n p s = omega (arith, (stops-once (number_of stop.why) stop.place n p r s).1)
+  before-stop place (Err stop) (inr r) b n p s = omega (arith, r.1 n p s)
 
   -- A reader that follows the grammar, and then asks for the end, answers rightly.
-  pub whole-right : (f : Step → Step) → Follows text device-ll f → ByGrammar (fixed_after text 255 (f (At 0)))
+  pub whole-right : (f : Step → Step) → Follows text device-ll f → ByGrammar (fixed_after text 255 (f (Ok 0)))
   unfolding then_at ByGrammar fixed_after step_of said
-  whole-right f r = by (f (At 0)) (r.fits (At 0))
+  whole-right f r = by (f (Ok 0)) (r.fits (Ok 0))
     where
-      right : ByGrammar (fixed_after text 255 (then_at text device-ll (At 0)))
+      right : ByGrammar (fixed_after text 255 (then_at text device-ll (Ok 0)))
       right = said-right (then rules (source text) device-ll (Passed 0)) refl
 
-      by : (s : Step) → Fits text s (then_at text device-ll (At 0)) → ByGrammar (fixed_after text 255 s)
+      by : (s : Step) → Fits text s (then_at text device-ll (Ok 0)) → ByGrammar (fixed_after text 255 s)
       by s (inl (p, e, b)) =
-          subst (λ (t : Step). ByGrammar (fixed_after text 255 t)) (sym e) (inr (refl, before-stop p (then_at text device-ll (At 0)) right b))
+          subst (λ (t : Step). ByGrammar (fixed_after text 255 t)) (sym e) (inr (refl, before-stop p (then_at text device-ll (Ok 0)) right b))
       by s (inr e) = subst (λ (t : Step). ByGrammar (fixed_after text 255 t)) (sym e) right

@@ -6,8 +6,8 @@ use mathlib.Core.Bool.{Bool, true, false, cond}
 use mathlib.Core.List.{List, [], ◌∷◌, foldl, foldl-append}
 use lib.Dec.{eqb, leb}
 use lib.ListN.{length}
-use Rattle.syntax.specs.declared.reader.Step.{Step}
-use Rattle.syntax.specs.declared.reader.Step.TheVariants.{At, Refused}
+use Rattle.syntax.specs.Step.{Step}
+use Rattle.std.specs.Prelude.{Ok, Err}
 use Rattle.syntax.specs.Reader.{seen_at, fixed_after}
 use Rattle.syntax.specs.Loop.{loop_with}
 use Rattle.syntax.specs.Text.{Declaration, a_device, a_parameter, a_register, a_variable, Progress, begins, moved_to, counted, taken, head_with, parameter_with, more_parameters, register_with, variable_with, declaration_with, more_declarations, parameters_with, declarations_with, reading_with, listed, reading, remade, outlined}
@@ -41,8 +41,8 @@ module _ {X Y : Type 0} (j : X → Declaration → X) (k : Y → Declaration →
 
   taken_through : (p : Progress X) (d : Declaration) (s : Step) → remade f (taken j p d s) ≡ taken k (remade f p) d s
   unfolding taken moved_to remade
-  taken_through p d (At next) = counted_through p d next
-  taken_through p d (Refused number place) = refl
+  taken_through p d (Ok next) = counted_through p d next
+  taken_through p d (Err stop) = refl
 
   either_through : (c : Bool) (a b : Progress X) (u v : Progress Y) → remade f a ≡ u → remade f b ≡ v → remade f (cond c a b) ≡ cond c u v
   either_through true a b u v e g = e

@@ -9,8 +9,8 @@ use lib.ListN.{length}
 use Rattle.grammar.specs.Grammar.{Grammar, tok, ◌▸◌, many, separated, lookup}
 use Rattle.grammar.specs.Sets.{mem}
 use Rattle.grammar.specs.Check.{nullable, first_with, first_of_rule, first}
-use Rattle.syntax.specs.declared.reader.Step.{Step}
-use Rattle.syntax.specs.declared.reader.Step.TheVariants.{At}
+use Rattle.syntax.specs.Step.{Step}
+use Rattle.std.specs.Prelude.{Ok}
 use Rattle.syntax.specs.Reader.{fixed_after, extra_after}
 use Rattle.syntax.specs.Items.{Filed, unless_full, item_turn, more_items, items_after}
 use Rattle.syntax.proofs.Factored.{rules}
@@ -33,16 +33,16 @@ module _ (text : List ℕ) where
     follows-more : (count : ℕ) (table : List ℕ) → Follows text (many (tok kind ▸ g)) (λ s. (more_items text item kind (length text) count table s).listed.step)
     unfolding more_items item_turn mem first first_with first_of_rule nullable lookup rules
     follows-more count table =
-        follows-loop text (λ (f : Filed). f.listed.step) (λ f s. record { listed = record { count = f.listed.count; step = s }; table = f.table })
+        follows-loop text (λ (f : Filed). f.listed.step) (λ f s. record { listed = record { value = f.listed.value; step = s }; table = f.table })
         (λ k. eqb k kind) (item_turn text item kind) (λ f s. refl) (λ f. refl)
-        (only text (tok kind ▸ g) kind refl) e refl (λ f s. (item f.listed.count f.table (fixed_after text kind s)).listed.step)
-        (λ f. follows-seq text (follows-tok text kind e) (reads f.listed.count f.table))
-        (λ f s i. ap (λ (t : Step). (item f.listed.count f.table t).listed.step) (past_is text s kind e i))
-        (record { listed = record { count = count; step = At 0 }; table = table })
+        (only text (tok kind ▸ g) kind refl) e refl (λ f s. (item f.listed.value f.table (fixed_after text kind s)).listed.step)
+        (λ f. follows-seq text (follows-tok text kind e) (reads f.listed.value f.table))
+        (λ f s i. ap (λ (t : Step). (item f.listed.value f.table t).listed.step) (past_is text s kind e i))
+        (record { listed = record { value = count; step = Ok 0 }; table = table })
 
     -- item (sign item)*
     pub follows-items : (count : ℕ) (table : List ℕ) → Follows text (separated (tok kind) g) (λ s. (items_after text item kind count table s).listed.step)
     unfolding items_after
     follows-items count table =
-        follows-held text (λ t s. (more_items text item kind (length text) (item count table t).listed.count (item count table t).table (item count table s).listed.step).listed.step)
-        (λ t. follows-seq text (reads count table) (follows-more (item count table t).listed.count (item count table t).table))
+        follows-held text (λ t s. (more_items text item kind (length text) (item count table t).listed.value (item count table t).table (item count table s).listed.step).listed.step)
+        (λ t. follows-seq text (reads count table) (follows-more (item count table t).listed.value (item count table t).table))

@@ -7,7 +7,7 @@ use mathlib.Core.Bool.{Bool, true, false}
 use mathlib.Core.List.{List}
 use lib.Dec.{eqb}
 use borrow.Author.Tests.{eq-eqb, ne_eqb}
-use Rattle.syntax.specs.declared.reader.Step.{Step}
+use Rattle.syntax.specs.Step.{Step}
 use Rattle.syntax.specs.declared.reader.Seen.{Seen}
 use Rattle.syntax.specs.Reader.{seen_at}
 use Rattle.syntax.specs.Loop.{loop_with}
@@ -35,16 +35,27 @@ module _ {P : Type 0} (text : List ℕ) (step : P → Step) (tells : ℕ → Boo
     turn_on left q z e t =
         ap (λ (n : ℕ). loop_with text step tells turn n p) z ∙ loop-on left p (ap (λ (y : Seen). tells y.kind) (sym s) ∙ e) ∙ ap (loop_with text step tells turn left) (sym t)
 
--- a loop whose turns one sign tells, over what the calls of a turn answered: `whole` is what the loop comes to
-module _ {P : Type 0} (text : List ℕ) (step : P → Step) (kind : ℕ) (turn : P → P) (room : ℕ) (p : P) {whole : P} (is : whole ≡ loop_with text step (λ k. eqb k kind) turn room p) where
-  pub sign-full : room ≤ 0 → p ≡ whole
-  sign-full z = sym (is ∙ loop-full text step (λ k. eqb k kind) turn room p (omega arith))
+-- a loop of `size` turns at most, behind `turns` of them; `whole` is what it comes to
+module _ {P : Type 0} (text : List ℕ) (step : P → Step) (tells : ℕ → Bool) (turn : P → P) (size turns : ℕ) (p : P) {whole : P} (is : whole ≡ loop_with text step tells turn (size - turns) p) where
+  pub loop-over : size ≤ turns → p ≡ whole
+  loop-over z = sym (is ∙ loop-full text step tells turn (size - turns) p (omega arith))
+
+  pub loop-done : {seen : Seen} → seen ≡ seen_at text (step p) → tells seen.kind ≡ false → p ≡ whole
+  loop-done {seen} s e = sym (is ∙ turn_end text step tells turn p seen s (size - turns) e)
+
+  pub loop-again : {seen : Seen} {q : P} → seen ≡ seen_at text (step p) → turns < size → tells seen.kind ≡ true → q ≡ turn p → whole ≡ loop_with text step tells turn (size - (turns + 1)) q
+  loop-again {seen} {q} s z e t = is ∙ turn_on text step tells turn p seen s (size - turns) (size - (turns + 1)) q (omega arith) e t
+
+-- one whose turns a sign tells
+module _ {P : Type 0} (text : List ℕ) (step : P → Step) (kind : ℕ) (turn : P → P) (size turns : ℕ) (p : P) {whole : P} (is : whole ≡ loop_with text step (λ k. eqb k kind) turn (size - turns) p) where
+  pub sign-full : size ≤ turns → p ≡ whole
+  sign-full = loop-over text step (λ k. eqb k kind) turn size turns p is
 
   pub sign-end : {seen : Seen} → seen ≡ seen_at text (step p) → (seen.kind ≡ kind → ⊥) → p ≡ whole
-  sign-end {seen} s e = sym (is ∙ turn_end text step (λ k. eqb k kind) turn p seen s room (ne_eqb _ _ e))
+  sign-end s e = loop-done text step (λ k. eqb k kind) turn size turns p is s (ne_eqb _ _ e)
 
-  pub sign-on : {seen : Seen} {q : P} → seen ≡ seen_at text (step p) → 0 < room → seen.kind ≡ kind → q ≡ turn p → whole ≡ loop_with text step (λ k. eqb k kind) turn (room - 1) q
-  sign-on {seen} {q} s z e t = is ∙ turn_on text step (λ k. eqb k kind) turn p seen s room (room - 1) q (omega arith) (eq-eqb _ _ e) t
+  pub sign-on : {seen : Seen} {q : P} → seen ≡ seen_at text (step p) → turns < size → seen.kind ≡ kind → q ≡ turn p → whole ≡ loop_with text step (λ k. eqb k kind) turn (size - (turns + 1)) q
+  sign-on s z e t = loop-again text step (λ k. eqb k kind) turn size turns p is s z (eq-eqb _ _ e) t
 
 -- what every turn keeps, a loop keeps
 pub loop-keeps : {P : Type 0} (text : List ℕ) (step : P → Step) (tells : ℕ → Bool) (turn : P → P) (I : P → Type 0)

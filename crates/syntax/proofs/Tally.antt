@@ -15,13 +15,14 @@ use Rattle.token.specs.declared.Token.{Token}
 use Rattle.token.specs.declared.Token.TheVariants.{Name, Word, Number, Bits, Sign, End, Bad}
 use Rattle.token.specs.Scan.{scan_at}
 use Rattle.token.specs.Fair.{place_of, goes_on_lem}
-use Rattle.token.specs.Kind.{kind_of, refused_as}
+use Rattle.token.specs.declared.Refusal.{Refusal}
+use Rattle.token.specs.Kind.{kind_of, refused_as, number_of}
 use Rattle.token.specs.Tokens.{tokens_at}
 use Rattle.token.proofs.Laws.{passes, scan-fair}
 use Rattle.token.proofs.Reading.{tokens-on, tokens-end}
 use Rattle.grammar.proofs.SetLaws.{clash}
-use Rattle.syntax.specs.declared.reader.Step.{Step}
-use Rattle.syntax.specs.declared.reader.Step.TheVariants.{At, Refused}
+use Rattle.syntax.specs.Step.{Step, too_much_at}
+use Rattle.std.specs.Prelude.{Ok, Err}
 use Rattle.syntax.specs.Reader.{unexpected, too_many, name_in, seen_at, place_at, fixed_after, extra_after, token_at, token_after, name_after, number_after, enclosed_after}
 use Rattle.syntax.proofs.Follows.{lies, long-is-name}
 use Rattle.syntax.specs.Sizes.{Tally, tallied, long_name, too_much, passed_in, NotBefore, Kept}
@@ -97,29 +98,29 @@ module _ (text : List ℕ) where
     -- `w` is where a size is first passed. A step agrees with a count: at a place, when from there on the count comes
     -- to `w`; refused by 5, when `w` is that place; and refused by another number, when no size is passed before.
     unfoldable pub Agrees : Tally → Step → Type 0
-    Agrees c (At at) = passed_in c (tokens_at text at) ≡ w
-    Agrees c (Refused number place) = ((number ≡ 5) × (w ≡ some place)) ⊎ ((number ≡ 5 → ⊥) × NotBefore w place)
+    Agrees c (Ok at) = passed_in c (tokens_at text at) ≡ w
+    Agrees c (Err stop) = ((number_of stop.why ≡ 5) × (w ≡ some stop.place)) ⊎ ((number_of stop.why ≡ 5 → ⊥) × NotBefore w stop.place)
 
     -- a refusal agrees with every count or with none
-    pub refused-agrees : (c d : Tally) (number place : ℕ) → Agrees c (Refused number place) → Agrees d (Refused number place)
+    pub refused-agrees : (c d : Tally) (stop : Refusal) → Agrees c (Err stop) → Agrees d (Err stop)
     unfolding Agrees
-    refused-agrees c d number place a = a
+    refused-agrees c d stop a = a
 
     -- 3 or 4 at the next token
-    pub agrees-unexpected : (c d : Tally) (at : ℕ) → Agrees c (At at) → Agrees d (unexpected (scan_at text at).token)
+    pub agrees-unexpected : (c d : Tally) (at : ℕ) → Agrees c (Ok at) → Agrees d (unexpected (scan_at text at).token)
     unfolding Agrees unexpected
     agrees-unexpected c d at a =
         inr (not_five (scan_at text at).token, subst (λ (v : Option ℕ). NotBefore v (place_of (scan_at text at).token)) a (from-here (suc (length text)) c at (omega arith)))
 
     -- past a token that passes no size
     pub agrees_on : (c : Tally) (at : ℕ) → goes_on_lem (scan_at text at).token ≡ true → (long_name (scan_at text at).token || too_much c (kind_of (scan_at text at).token)) ≡ false
-        → Agrees c (At at) → Agrees (tallied c (kind_of (scan_at text at).token)) (At (scan_at text at).next)
+        → Agrees c (Ok at) → Agrees (tallied c (kind_of (scan_at text at).token)) (Ok (scan_at text at).next)
     unfolding Agrees
     agrees_on c at e h a = sym (passed_later c at e h) ∙ a
 
     -- 5 at a token that passes one
     pub agrees-five : (c d : Tally) (at : ℕ) → goes_on_lem (scan_at text at).token ≡ true → (long_name (scan_at text at).token || too_much c (kind_of (scan_at text at).token)) ≡ true
-        → Agrees c (At at) → Agrees d (Refused 5 (place_of (scan_at text at).token))
+        → Agrees c (Ok at) → Agrees d (too_much_at (place_of (scan_at text at).token))
     unfolding Agrees
     agrees-five c d at e h a = inl (refl, sym a ∙ passed_here c at e h)
 
@@ -147,30 +148,30 @@ module _ (text : List ℕ) where
 
     -- past a token of a kind, which is no name too long
     on-kind : (k : ℕ) (c : Tally) → eqb 255 k ≡ false → too_much c k ≡ false → (at : ℕ) → eqb (kind_of (scan_at text at).token) k ≡ true → long_name (scan_at text at).token ≡ false
-        → Agrees c (At at) → Agrees (tallied c k) (At (scan_at text at).next)
+        → Agrees c (Ok at) → Agrees (tallied c k) (Ok (scan_at text at).next)
     on-kind k c end fits at i few a =
         let is : kind_of (scan_at text at).token ≡ k = eqb-true _ k i in
-        subst (λ (n : ℕ). Agrees (tallied c n) (At (scan_at text at).next)) is
+        subst (λ (n : ℕ). Agrees (tallied c n) (Ok (scan_at text at).next)) is
         (agrees_on c at (goes (scan_at text at).token k end i) (ap (λ (b : Bool). b || too_much c (kind_of (scan_at text at).token)) few ∙ ap (too_much c) is ∙ fits) a)
 
     module _ (k : ℕ) (c : Tally) (end : eqb 255 k ≡ false) (name : eqb 1 k ≡ false) (fits : too_much c k ≡ false) where
       pub agrees-tok : (s : Step) → Agrees c s → Agrees (tallied c k) (fixed_after text k s)
       unfolding fixed_after
-      agrees-tok (Refused n p) a = refused-agrees c (tallied c k) n p a
-      agrees-tok (At at) a = by (eqb (kind_of (scan_at text at).token) k) refl
+      agrees-tok (Err stop) a = refused-agrees c (tallied c k) stop a
+      agrees-tok (Ok at) a = by (eqb (kind_of (scan_at text at).token) k) refl
         where
-          by : (b : Bool) → eqb (kind_of (scan_at text at).token) k ≡ b → Agrees (tallied c k) (cond b (At (scan_at text at).next) (unexpected (scan_at text at).token))
+          by : (b : Bool) → eqb (kind_of (scan_at text at).token) k ≡ b → Agrees (tallied c k) (cond b (Ok (scan_at text at).next) (unexpected (scan_at text at).token))
           by true i = on-kind k c end fits at i (short (scan_at text at).token k name i) a
           by false i = agrees-unexpected c (tallied c k) at a
 
       -- past a token that was looked at
       pub agrees-past : (s : Step) → eqb (seen_at text s).kind k ≡ true → Agrees c s → Agrees (tallied c k) (seen_at text s).past
       unfolding seen_at
-      agrees-past (Refused n p) i a = clash (eqb 255 k) i end
-      agrees-past (At at) i a = on-kind k c end fits at i (short (scan_at text at).token k name i) a
+      agrees-past (Err stop) i a = clash (eqb 255 k) i end
+      agrees-past (Ok at) i a = on-kind k c end fits at i (short (scan_at text at).token k name i) a
 
     -- the same, by the kind of the token at a place
-    pub agrees-kind : (k : ℕ) (c : Tally) → eqb 255 k ≡ false → eqb 1 k ≡ false → too_much c k ≡ false → (at : ℕ) → kind_of (scan_at text at).token ≡ k → Agrees c (At at) → Agrees (tallied c k) (At (scan_at text at).next)
+    pub agrees-kind : (k : ℕ) (c : Tally) → eqb 255 k ≡ false → eqb 1 k ≡ false → too_much c k ≡ false → (at : ℕ) → kind_of (scan_at text at).token ≡ k → Agrees c (Ok at) → Agrees (tallied c k) (Ok (scan_at text at).next)
     agrees-kind k c end name fits at i a = on-kind k c end fits at (eq-eqb _ k i) (short (scan_at text at).token k name (eq-eqb _ k i)) a
 
     -- a token that the count does not mind
@@ -195,10 +196,10 @@ module _ (text : List ℕ) where
     -- a token of a kind that is one too many
     pub agrees-extra : (k : ℕ) → eqb 255 k ≡ false → (c d : Tally) → too_much c k ≡ true → (s : Step) → Agrees c s → Agrees d (extra_after text k s)
     unfolding extra_after place_at too_many fixed_after unexpected
-    agrees-extra k end c d over (Refused n p) a = refused-agrees c d n p a
-    agrees-extra k end c d over (At at) a = by (eqb (kind_of (scan_at text at).token) k) refl
+    agrees-extra k end c d over (Err stop) a = refused-agrees c d stop a
+    agrees-extra k end c d over (Ok at) a = by (eqb (kind_of (scan_at text at).token) k) refl
       where
-        by : (b : Bool) → eqb (kind_of (scan_at text at).token) k ≡ b → Agrees d (too_many (place_of (scan_at text at).token) (cond b (At (scan_at text at).next) (unexpected (scan_at text at).token)))
+        by : (b : Bool) → eqb (kind_of (scan_at text at).token) k ≡ b → Agrees d (too_many (place_of (scan_at text at).token) (cond b (Ok (scan_at text at).next) (unexpected (scan_at text at).token)))
         by true i =
             agrees-five c d at (goes (scan_at text at).token k end i)
             (ap (λ (n : ℕ). long_name (scan_at text at).token || too_much c n) (eqb-true (kind_of (scan_at text at).token) k i)
@@ -209,11 +210,11 @@ module _ (text : List ℕ) where
 
     pub agrees-name : (c : Tally) → too_much c 1 ≡ false → (s : Step) → Agrees c s → Agrees (tallied c 1) (name_after text s).step
     unfolding name_after name_in token_after token_at long_name fixed_after
-    agrees-name c fits (Refused n p) a = refused-agrees c (tallied c 1) n p a
-    agrees-name c fits (At at) a = by (long_name (scan_at text at).token) refl (eqb (kind_of (scan_at text at).token) 1) refl
+    agrees-name c fits (Err stop) a = refused-agrees c (tallied c 1) stop a
+    agrees-name c fits (Ok at) a = by (long_name (scan_at text at).token) refl (eqb (kind_of (scan_at text at).token) 1) refl
       where
         by : (b : Bool) → long_name (scan_at text at).token ≡ b → (d : Bool) → eqb (kind_of (scan_at text at).token) 1 ≡ d
-            → Agrees (tallied c 1) (cond b (Refused 5 (place_of (scan_at text at).token)) (cond d (At (scan_at text at).next) (unexpected (scan_at text at).token)))
+            → Agrees (tallied c 1) (cond b (too_much_at (place_of (scan_at text at).token)) (cond d (Ok (scan_at text at).next) (unexpected (scan_at text at).token)))
         by true e d i =
             agrees-five c (tallied c 1) at (goes (scan_at text at).token 1 refl (long-is-name text (scan_at text at).token e)) (ap (λ (b : Bool). b || too_much c (kind_of (scan_at text at).token)) e) a
         by false e true i = on-kind 1 c refl fits at i e a
@@ -223,8 +224,8 @@ module _ (text : List ℕ) where
 
     pub agrees-end : (c : Tally) → too_much c 255 ≡ false → (s : Step) → Agrees c s → Kept w (fixed_after text 255 s)
     unfolding Agrees Kept fixed_after unexpected passed_in long_name
-    agrees-end c fits (Refused n p) a = a
-    agrees-end c fits (At at) a = by (eqb (kind_of (scan_at text at).token) 255) refl
+    agrees-end c fits (Err stop) a = a
+    agrees-end c fits (Ok at) a = by (eqb (kind_of (scan_at text at).token) 255) refl
       where
         over : (t : Token) → kind_of t ≡ 255 → (goes_on_lem t ≡ false) × (long_name t ≡ false)
         over (Name p n) e = absurd (omega arith)
@@ -235,7 +236,7 @@ module _ (text : List ℕ) where
         over (End p) e = (refl, refl)
         over (Bad p) e = absurd (omega arith)
 
-        by : (b : Bool) → eqb (kind_of (scan_at text at).token) 255 ≡ b → Kept w (cond b (At (scan_at text at).next) (unexpected (scan_at text at).token))
+        by : (b : Bool) → eqb (kind_of (scan_at text at).token) 255 ≡ b → Kept w (cond b (Ok (scan_at text at).next) (unexpected (scan_at text at).token))
         by true i =
             let last = over (scan_at text at).token (eqb-true (kind_of (scan_at text at).token) 255 i) in
             let is : kind_of (scan_at text at).token ≡ 255 = eqb-true (kind_of (scan_at text at).token) 255 i in

@@ -14,20 +14,16 @@ use Rattle.token.specs.declared.Token.{Token}
 use Rattle.token.specs.declared.Token.TheVariants.{Name, Word, Number, Bits, Sign, End, Bad as NoToken}
 use Rattle.token.specs.Scan.{scan_at}
 use Rattle.token.specs.Kind.{kind_of, sign_of}
-use Rattle.expression.specs.declared.Worth.{Worth}
-use Rattle.expression.specs.declared.Outcome.{Outcome}
-use Rattle.expression.specs.declared.Outcome.TheVariants.{Read, Refused as Stopped}
-use Rattle.expression.specs.declared.Opening.{Opening}
-use Rattle.expression.specs.declared.Opening.TheVariants.{Literal, Minus, Paren, Nothing}
+use Rattle.expression.specs.Value.{Worth}
+use Rattle.expression.specs.Expression.{Outcome}
+use Rattle.expression.specs.Expression.{Opening, Literal, Minus, Paren, Nothing}
 use Rattle.expression.specs.Expression.{operator_of, joint_of, opening_of, operand_at, chain_at, rest_at, expression_at}
 use Rattle.expression.specs.declared.Operator.{Operator}
 use Rattle.expression.specs.declared.Operator.TheVariants.{Sum, Difference, Product, Quotient, Remainder}
-use Rattle.expression.specs.declared.Joint.{Joint}
-use Rattle.expression.specs.declared.Joint.TheVariants.{By, Ends}
 use Rattle.expression.proofs.Joints.{joint-is}
 use Rattle.expression.proofs.Laws.{operand-literal, operand-nothing, operand-deep, operand-minus, operand-paren, chain-operand, chain_first, rest_end, rest-refusal, rest_more, rest-ahead}
-use Rattle.syntax.specs.declared.reader.Step.{Step}
-use Rattle.syntax.specs.declared.reader.Step.TheVariants.{At, Refused}
+use Rattle.syntax.specs.Step.{Step}
+use Rattle.std.specs.Prelude.{Option as Perhaps, Some, None, Ok, Err}
 use Rattle.syntax.specs.Offset.{step_in, expression_after}
 use Rattle.syntax.specs.Sizes.{Encloser, parenthesis, minus, register, operand, ended, closed, asks_operand, onward, passes_at, Tally, tallied, long_name, too_much}
 use Rattle.syntax.proofs.ExpressionFollows.{Matches, opening-kind, refused-alike, negated-step, closed-step}
@@ -35,7 +31,7 @@ use Rattle.syntax.proofs.LoopSteps.{along}
 use Rattle.syntax.proofs.Tally.{Agrees, refused-agrees, agrees-unexpected, agrees-five, agrees-kind, agrees-tok, goes}
 
 -- an operator is something
-apart : {operator : Operator} → Ends ≡ By operator → ⊥
+apart : {operator : Operator} → None ≡ Some operator → ⊥
 apart e = let z : ◌≡◌ {A = ℕ} 0 1 = cc in omega arith
 
 module _ (text : List ℕ) (w : Option ℕ) (registers variables : ℕ) where
@@ -48,11 +44,11 @@ module _ (text : List ℕ) (w : Option ℕ) (registers variables : ℕ) where
 
   -- ---- operators
 
-  operator-passes : (o : List Encloser) (at : ℕ) → (operator_of (sign_of (scan_at text at).token) ≡ Ends → ⊥) → Agrees text w (behind o) (At at) → Agrees text w (before o) (At (scan_at text at).next)
+  operator-passes : (o : List Encloser) (at : ℕ) → (operator_of (sign_of (scan_at text at).token) ≡ None → ⊥) → Agrees text w (behind o) (Ok at) → Agrees text w (before o) (Ok (scan_at text at).next)
   unfolding operator_of tallied too_much passes_at onward asks_operand
   operator-passes o at some a = by (scan_at text at).token refl some
     where
-      by : (t : Token) → (scan_at text at).token ≡ t → (operator_of (sign_of t) ≡ Ends → ⊥) → Agrees text w (before o) (At (scan_at text at).next)
+      by : (t : Token) → (scan_at text at).token ≡ t → (operator_of (sign_of t) ≡ None → ⊥) → Agrees text w (before o) (Ok (scan_at text at).next)
       by (Name p n) e some = absurd (some refl)
       by (Word p n) e some = absurd (some refl)
       by (Number p n) e some = absurd (some refl)
@@ -65,7 +61,7 @@ module _ (text : List ℕ) (w : Option ℕ) (registers variables : ℕ) where
           is k h = ap kind_of e ∙ ap (λ (n : ℕ). 256 + n) (eqb-true s k h)
 
           sign : (a : Bool) → eqb s 43 ≡ a → (b : Bool) → eqb s 45 ≡ b → (c : Bool) → eqb s 42 ≡ c → (d : Bool) → eqb s 47 ≡ d → (f : Bool) → eqb s 37 ≡ f
-              → (cond a (By Sum) (cond b (By Difference) (cond c (By Product) (cond d (By Quotient) (cond f (By Remainder) Ends)))) ≡ Ends → ⊥) → Agrees text w (before o) (At (scan_at text at).next)
+              → (cond a (Some Sum) (cond b (Some Difference) (cond c (Some Product) (cond d (Some Quotient) (cond f (Some Remainder) None)))) ≡ None → ⊥) → Agrees text w (before o) (Ok (scan_at text at).next)
           sign true ea b eb c ec d ed f ef some = agrees-kind text w 299 (behind o) refl refl refl at (is 43 ea) a
           sign false ea true eb c ec d ed f ef some = agrees-kind text w 301 (behind o) refl refl refl at (is 45 eb) a
           sign false ea false eb true ec d ed f ef some = agrees-kind text w 298 (behind o) refl refl refl at (is 42 ec) a
@@ -77,24 +73,24 @@ module _ (text : List ℕ) (w : Option ℕ) (registers variables : ℕ) where
 
   -- a part of an expression agrees
   abbrev Part : List Encloser → (ℕ → Outcome) → Type 0
-  Part o part = (at : ℕ) → Agrees text w (before o) (At at) → Agrees text w (behind o) (step_in (part at))
+  Part o part = (at : ℕ) → Agrees text w (before o) (Ok at) → Agrees text w (behind o) (step_in (part at))
 
   module _ (depth level : ℕ) (some : level ≡ 0 → ⊥) (o : List Encloser) (parts : Part o (chain_at text depth (level - 1))) where
     abbrev Rest : Worth → ℕ → Type 0
-    Rest x at = Agrees text w (behind o) (At at) → Agrees text w (behind o) (step_in (rest_at text depth level x at))
+    Rest x at = Agrees text w (behind o) (Ok at) → Agrees text w (behind o) (step_in (rest_at text depth level x at))
 
     turn : (x : Worth) (at : ℕ) → ((y : Worth) (end : ℕ) → at < end → at < length text → Rest y end) → Rest x at
     unfolding step_in
     turn x at rest a = by (joint_of level (sign_of (scan_at text at).token)) refl (chain_at text depth (level - 1) (scan_at text at).next) refl
       where
-        part : {operator : Operator} → joint_of level (sign_of (scan_at text at).token) ≡ By operator → Agrees text w (behind o) (step_in (chain_at text depth (level - 1) (scan_at text at).next))
+        part : {operator : Operator} → joint_of level (sign_of (scan_at text at).token) ≡ Some operator → Agrees text w (behind o) (step_in (chain_at text depth (level - 1) (scan_at text at).next))
         part e = parts (scan_at text at).next (operator-passes o at (λ z. apart (sym z ∙ joint-is level (sign_of (scan_at text at).token) e)) a)
 
-        by : (j : Joint) → joint_of level (sign_of (scan_at text at).token) ≡ j → (p : Outcome) → chain_at text depth (level - 1) (scan_at text at).next ≡ p → Agrees text w (behind o) (step_in (rest_at text depth level x at))
-        by Ends e p q = rw (rest_end text depth level x at e) a
-        by (By operator) e (Stopped number place) q =
+        by : (j : Perhaps Operator) → joint_of level (sign_of (scan_at text at).token) ≡ j → (p : Outcome) → chain_at text depth (level - 1) (scan_at text at).next ≡ p → Agrees text w (behind o) (step_in (rest_at text depth level x at))
+        by None e p q = rw (rest_end text depth level x at e) a
+        by (Some operator) e (Err stop) q =
             rw (rest-refusal text depth level x at e q) (subst (λ (t : Outcome). Agrees text w (behind o) (step_in t)) q (part e))
-        by (By operator) e (Read right end) q =
+        by (Some operator) e (Ok (right, end)) q =
             let ahead = rest-ahead text depth level x at e q in
             rw (rest_more text depth level x at e q) (rest _ end ahead.0 ahead.1 (subst (λ (t : Outcome). Agrees text w (behind o) (step_in t)) q (part e)))
 
@@ -103,8 +99,8 @@ module _ (text : List ℕ) (w : Option ℕ) (registers variables : ℕ) where
     chain-agrees at a = by (chain_at text depth (level - 1) at) refl
       where
         by : (p : Outcome) → chain_at text depth (level - 1) at ≡ p → Agrees text w (behind o) (step_in (chain_at text depth level at))
-        by (Stopped number place) q = rw (chain_first text depth level at some, q) (subst (λ (t : Outcome). Agrees text w (behind o) (step_in t)) q (parts at a))
-        by (Read x end) q =
+        by (Err stop) q = rw (chain_first text depth level at some, q) (subst (λ (t : Outcome). Agrees text w (behind o) (step_in t)) q (parts at a))
+        by (Ok (x, end)) q =
             rw (chain_first text depth level at some, q)
             (along (length text) Rest turn x end (subst (λ (t : Outcome). Agrees text w (behind o) (step_in t)) q (parts at a)))
 
@@ -118,9 +114,9 @@ module _ (text : List ℕ) (w : Option ℕ) (registers variables : ℕ) where
 
   -- one that `depth` more may enclose
   abbrev Operand : ℕ → Type 0
-  Operand depth = (o : List Encloser) → length o + depth ≡ 16 → (at : ℕ) → Agrees text w (before o) (At at) → Agrees text w (behind (ended o)) (step_in (operand_at text depth at))
+  Operand depth = (o : List Encloser) → length o + depth ≡ 16 → (at : ℕ) → Agrees text w (before o) (Ok at) → Agrees text w (behind (ended o)) (step_in (operand_at text depth at))
 
-  module _ (depth : ℕ) (o : List Encloser) (at : ℕ) (a : Agrees text w (before o) (At at)) where
+  module _ (depth : ℕ) (o : List Encloser) (at : ℕ) (a : Agrees text w (before o) (Ok at)) where
     by-literal : {v : ℕ} → opening_of (scan_at text at).token ≡ Literal v → kind_of (scan_at text at).token ≡ 2 → Agrees text w (behind (ended o)) (step_in (operand_at text depth at))
     unfolding step_in tallied too_much passes_at onward
     by-literal q k = rw (operand-literal text depth at q) (agrees-kind text w 2 (before o) refl refl refl at k a)
@@ -181,6 +177,6 @@ module _ (text : List ℕ) (w : Option ℕ) (registers variables : ℕ) where
 
   -- THE EXPRESSION, behind its `@`
   pub agrees-expression : (s : Step) → Agrees text w (before []) s → Agrees text w (behind []) (expression_after text s)
-  unfolding expression_after expression_at ended
-  agrees-expression (At at) a = sum_agrees 16 [] (operand_agrees 16 [] refl) at a
-  agrees-expression (Refused n p) a = refused-agrees text w (before []) (behind []) n p a
+  unfolding step_in expression_after expression_at ended
+  agrees-expression (Ok at) a = sum_agrees 16 [] (operand_agrees 16 [] refl) at a
+  agrees-expression (Err stop) a = refused-agrees text w (before []) (behind []) stop a

@@ -9,7 +9,7 @@ use mathlib.Core.Option.{Option}
 use lib.Dec.{eqb, leb, ltb}
 use lib.ListN.{length}
 use borrow.Author.Tests.{leb-true, leb-false, lt-ltb, le-ltb}
-use Rattle.syntax.specs.declared.reader.Step.{Step}
+use Rattle.syntax.specs.Step.{Step}
 use Rattle.syntax.specs.Reader.{seen_at}
 use Rattle.syntax.specs.Items.{Filed, unless_full, item_turn, more_items, items_after}
 use Rattle.syntax.specs.Sizes.{Tally, too_much}
@@ -20,7 +20,7 @@ use Rattle.syntax.proofs.Tally.{Agrees, agrees-extra}
 module _ (text : List ℕ) (w : Option ℕ) (most : ℕ) (within : ℕ → Tally) where
   -- items as far as they are read: no more than there may be, and as many as the count says
   abbrev pub Counted : Filed → Type 0
-  Counted f = (ltb most f.listed.count ≡ false) × Agrees text w (within f.listed.count) f.listed.step
+  Counted f = (ltb most f.listed.value ≡ false) × Agrees text w (within f.listed.value) f.listed.step
 
   -- one more has been read
   pub one_more_lem : (count : ℕ) (s : Step) → ltb most (suc count) ≡ false → Agrees text w (within (suc count)) s → (ltb most (count + 1) ≡ false) × Agrees text w (within (count + 1)) s
@@ -45,5 +45,5 @@ module _ (text : List ℕ) (w : Option ℕ) (most : ℕ) (within : ℕ → Tally
   unfolding items_after more_items item_turn
   agrees-items item kind next past count table s few a =
       loop-keeps text (λ (f : Filed). f.listed.step) (λ k. eqb k kind) (item_turn text item kind) Counted
-      (λ f i a. next f.listed.count f.table (seen_at text f.listed.step).past a.0 (past f.listed.count f.listed.step a.0 i a.1))
+      (λ f i a. next f.listed.value f.table (seen_at text f.listed.step).past a.0 (past f.listed.value f.listed.step a.0 i a.1))
       (length text) (item count table s) (next count table s few a)

@@ -6,7 +6,7 @@ use mathlib.Core.Bool.{Bool, true, false}
 use mathlib.Core.List.{List}
 use mathlib.Core.Option.{Option}
 use lib.Dec.{eqb, ltb}
-use Rattle.syntax.specs.declared.reader.Step.{Step}
+use Rattle.syntax.specs.Step.{Step}
 use Rattle.syntax.specs.Reader.{seen_at, number_after}
 use Rattle.syntax.specs.Parameter.{width_after, range_to, range_after, next_range, ranges_after, set_after, parameter_after}
 use Rattle.syntax.specs.Sizes.{parameter, range, onward, passes_at, Tally, tallied, too_much}

@@ -7,9 +7,9 @@ use mathlib.Core.List.{List, []}
 use mathlib.Core.Option.{Option}
 use lib.Dec.{eqb, ltb}
 use lib.ListN.{length}
-use Rattle.syntax.specs.declared.reader.Step.{Step}
+use Rattle.syntax.specs.Step.{Step}
 use Rattle.syntax.specs.declared.register.Masks.{Masks}
-use Rattle.syntax.specs.declared.register.Masked.{Masked}
+use Rattle.syntax.specs.declared.reader.Read.{Read}
 use Rattle.syntax.specs.Reader.{seen_at, fixed_after, bits_after}
 use Rattle.syntax.specs.Register.{mark_after, offset_after, port_after, mask_after, attribute_after, mask_turn, more_masks, second_marked, rest_after, register_after}
 use Rattle.syntax.specs.Sizes.{body, register, asks_operand, onward, passes_at, Tally, tallied, too_much}
@@ -72,8 +72,8 @@ module _ (text : List ℕ) (w : Option ℕ) where
     agrees_masks : (room : ℕ) (masks : Masks) (s : Step) → Agrees text w in_register s → Agrees text w in_register (more_masks text room masks s).step
     unfolding more_masks mask_turn attribute_after
     agrees_masks room masks s a =
-        loop-keeps text (λ (m : Masked). m.step) (λ kind. eqb kind 300) (mask_turn text) (λ m. Agrees text w in_register m.step)
-        (λ m i a. agrees-mask m.masks _ _ (marked _ (behind_comma_lem m.step i a))) room (record { masks = masks; step = s }) a
+        loop-keeps text (λ (m : Read Masks). m.step) (λ kind. eqb kind 300) (mask_turn text) (λ m. Agrees text w in_register m.step)
+        (λ m i a. agrees-mask m.value _ _ (marked _ (behind_comma_lem m.step i a))) room (record { value = masks; step = s }) a
 
     -- a second port or a first mask
     agrees-second : (mark : ℕ) (s : Step) → Agrees text w in_register s → Agrees text w in_register (second_marked text mark s).step

@@ -10,8 +10,8 @@ use lib.Dec.{eqb, leb, ltb}
 use lib.ListN.{length, replicate}
 use borrow.Author.Tests.{leb-true, leb-false, lt-ltb, le-ltb}
 use Rattle.token.specs.Tokens.{tokens_from, tokens_at}
-use Rattle.syntax.specs.declared.reader.Step.{Step}
-use Rattle.syntax.specs.declared.reader.Step.TheVariants.{At, Refused}
+use Rattle.syntax.specs.Step.{Step}
+use Rattle.std.specs.Prelude.{Ok, Err}
 use Rattle.syntax.specs.declared.reader.Named.{Named}
 use Rattle.syntax.specs.declared.register.Register.{Register}
 use Rattle.syntax.specs.Reader.{seen_at, fixed_after, extra_after}
@@ -53,9 +53,9 @@ module _ {X : Type 0} (judge : X → Declaration → X) (text : List ℕ) (w : O
   parameter-taken : (p : Progress X) (d : _) (s : Step) → ltb 16 p.parameters ≡ false → ltb 16 (suc p.parameters) ≡ false
       → Agrees text w (tally p.registers p.variables (parameter (suc p.parameters))) s → InHeading (taken judge p (a_parameter d) s)
   unfolding taken counted moved_to
-  parameter-taken p d (At next) few fits a =
-      subst (λ (n : ℕ). (ltb 16 n ≡ false) × Agrees text w (tally p.registers p.variables (parameter n)) (At next)) (next_one p.parameters) (fits, a)
-  parameter-taken p d (Refused n q) few fits a = (few, refused-agrees text w _ _ n q a)
+  parameter-taken p d (Ok next) few fits a =
+      subst (λ (n : ℕ). (ltb 16 n ≡ false) × Agrees text w (tally p.registers p.variables (parameter n)) (Ok next)) (next_one p.parameters) (fits, a)
+  parameter-taken p d (Err stop) few fits a = (few, refused-agrees text w _ _ stop a)
 
   parameter-agrees : (p : Progress X) → ltb 16 p.parameters ≡ false → At-spot (λ q. parameter (suc q.parameters)) p → InHeading (parameter_with judge text p)
   unfolding parameter_with moved_to too_much passes_at
@@ -79,8 +79,8 @@ module _ {X : Type 0} (judge : X → Declaration → X) (text : List ℕ) (w : O
   head_taken : (p : Progress X) (d : Named) (s : Step) → p.parameters ≡ 0 → Agrees text w (tally p.registers p.variables (parameter 1)) s
       → (ltb 16 (taken judge p (a_device d) s).parameters ≡ false) × At-spot (λ q. parameter (suc q.parameters)) (taken judge p (a_device d) s)
   unfolding taken counted moved_to
-  head_taken p d (At next) z a = rw z (refl, a)
-  head_taken p d (Refused n q) z a = rw z (refl, a)
+  head_taken p d (Ok next) z a = rw z (refl, a)
+  head_taken p d (Err stop) z a = rw z (refl, a)
 
   -- device name ( param (, param)* )
   heading-agrees : (p : Progress X) → p.parameters ≡ 0 → At-spot (λ q. front) p → At-spot (λ q. body) (parameters_with judge text p)
@@ -108,8 +108,8 @@ module _ {X : Type 0} (judge : X → Declaration → X) (text : List ℕ) (w : O
   -- a register ;
   register_taken_lem : (p : Progress X) (d : Register) (s : Step) → Agrees text w (tally (suc p.registers) p.variables body) s → At-spot (λ q. body) (taken judge p (a_register d) s)
   unfolding taken counted moved_to
-  register_taken_lem p d (At next) a = subst (λ (n : ℕ). Agrees text w (tally n p.variables body) (At next)) (next_one p.registers) a
-  register_taken_lem p d (Refused n q) a = refused-agrees text w _ _ n q a
+  register_taken_lem p d (Ok next) a = subst (λ (n : ℕ). Agrees text w (tally n p.variables body) (Ok next)) (next_one p.registers) a
+  register_taken_lem p d (Err stop) a = refused-agrees text w _ _ stop a
 
   register-agrees : (p : Progress X) → At-spot (λ q. body) p → At-spot (λ q. body) (register_with judge text p)
   unfolding register_with asks_operand tallied too_much passes_at onward
@@ -121,8 +121,8 @@ module _ {X : Type 0} (judge : X → Declaration → X) (text : List ℕ) (w : O
   -- a variable ;
   variable-taken : (p : Progress X) (d : VariableRead) (s : Step) → Agrees text w (tally p.registers (suc p.variables) body) s → At-spot (λ q. body) (taken judge p (a_variable d) s)
   unfolding taken counted moved_to
-  variable-taken p d (At next) a = subst (λ (n : ℕ). Agrees text w (tally p.registers n body) (At next)) (next_one p.variables) a
-  variable-taken p d (Refused n q) a = refused-agrees text w _ _ n q a
+  variable-taken p d (Ok next) a = subst (λ (n : ℕ). Agrees text w (tally p.registers n body) (Ok next)) (next_one p.variables) a
+  variable-taken p d (Err stop) a = refused-agrees text w _ _ stop a
 
   variable-agrees : (p : Progress X) → At-spot (λ q. body) p → At-spot (λ q. body) (variable_with judge text p)
   unfolding variable_with tallied too_much passes_at onward
@@ -158,5 +158,5 @@ pub sizes-kept : {X : Type 0} (judge : X → Declaration → X) (text : List ℕ
 unfolding reading_with moved_to nothing_yet Agrees too_much passes_at
 sizes-kept judge text x =
     agrees-end text (passed_at text) (tally judge text (passed_at text) _ _ body) refl _
-    (body-agrees judge text (passed_at text) (parameters_with judge text (record { parameters = 0; registers = 0; variables = 0; made = x; step = At 0 }))
-    (heading-agrees judge text (passed_at text) (record { parameters = 0; registers = 0; variables = 0; made = x; step = At 0 }) refl (from_start text)))
+    (body-agrees judge text (passed_at text) (parameters_with judge text (record { parameters = 0; registers = 0; variables = 0; made = x; step = Ok 0 }))
+    (heading-agrees judge text (passed_at text) (record { parameters = 0; registers = 0; variables = 0; made = x; step = Ok 0 }) refl (from_start text)))

@@ -7,9 +7,9 @@ use mathlib.Core.List.{List}
 use mathlib.Core.Option.{Option}
 use lib.Dec.{eqb, ltb}
 use lib.ListN.{length}
-use Rattle.syntax.specs.declared.reader.Step.{Step}
+use Rattle.syntax.specs.Step.{Step}
 use Rattle.syntax.specs.declared.attribute.Behaviours.{Behaviours}
-use Rattle.syntax.specs.declared.attribute.Behaved.{Behaved}
+use Rattle.syntax.specs.declared.reader.Read.{Read}
 use Rattle.syntax.specs.Reader.{seen_at, fixed_after, name_after}
 use Rattle.syntax.specs.Register.{mark_after}
 use Rattle.syntax.specs.Attribute.{trigger_after, behaviour_after, behaviour_turn, more_behaviours, int_after, type_after}
@@ -81,7 +81,7 @@ module _ (text : List ℕ) (w : Option ℕ) (registers variables : ℕ) where
   InVariable s = (n : ℕ) × (ltb 8 n ≡ false) × Agrees text w (in_piece n) s
 
   in_list : (table : List ℕ) (s : Step) → Agrees text w (in_piece 1) s → InVariable (pieces_after text table s).listed.step
-  in_list table s a = let all = agrees-pieces table s a in ((pieces_after text table s).listed.count, all.0, all.1)
+  in_list table s a = let all = agrees-pieces table s a in ((pieces_after text table s).listed.value, all.0, all.1)
 
   -- rw?, where a list or an attribute begins
   marked : (s : Step) → Agrees text w (in_piece 1) s → Agrees text w (in_piece 1) (mark_after text s).step
@@ -114,8 +114,8 @@ module _ (text : List ℕ) (w : Option ℕ) (registers variables : ℕ) where
   behaviours : (room : ℕ) (b : Behaviours) (s : Step) → InVariable s → InVariable (more_behaviours text room b s).step
   unfolding more_behaviours behaviour_turn
   behaviours room b s a =
-      loop-keeps text (λ (m : Behaved). m.step) (λ kind. eqb kind 300) (behaviour_turn text) (λ m. InVariable m.step)
-      (λ m i a. (1, refl, behaviour m.behaviours _ (comma-past a.0 a.1 m.step i a.2))) room (record { behaviours = b; step = s }) a
+      loop-keeps text (λ (m : Read Behaviours). m.step) (λ kind. eqb kind 300) (behaviour_turn text) (λ m. InVariable m.step)
+      (λ m i a. (1, refl, behaviour m.value _ (comma-past a.0 a.1 m.step i a.2))) room (record { value = b; step = s }) a
 
   -- pieces | trigger
   second_marked_lem : (mark : ℕ) (table : List ℕ) (s : Step) → Agrees text w (in_piece 1) s → InVariable (second_marked text mark table s).tail.step

@@ -11,8 +11,9 @@ use Rattle.grammar.specs.Sets.{mem}
 use Rattle.grammar.specs.Check.{nullable, first_with, first_of_rule, first}
 use Rattle.syntax.proofs.KindNumbers.{'port', comma, colon, semicolon, lbrace, rbrace, at_sign}
 use Rattle.syntax.proofs.Factored.{rules, param, width, ranges, register-ll, variable-ll, heading, device-ll}
-use Rattle.syntax.specs.declared.reader.Step.{Step}
-use Rattle.syntax.specs.declared.reader.Step.TheVariants.{At, Refused}
+use Rattle.syntax.specs.Step.{Step}
+use Rattle.std.specs.Prelude.{Ok, Err}
+use Rattle.token.specs.declared.Refusal.{Refusal}
 use Rattle.syntax.specs.Reader.{seen_at, fixed_after, extra_after}
 use Rattle.syntax.specs.Heading.{head_after}
 use Rattle.syntax.specs.Parameter.{parameter_after}
@@ -30,11 +31,11 @@ module _ {X : Type 0} (judge : X → Declaration → X) (text : List ℕ) where
   -- the step past a declaration, whether it counts or not
   taken_step : (p : Progress X) (d : Declaration) (s : Step) → (taken judge p d s).step ≡ s
   unfolding taken counted moved_to
-  taken_step p (a_device d) (At next) = refl
-  taken_step p (a_parameter d) (At next) = refl
-  taken_step p (a_register d) (At next) = refl
-  taken_step p (a_variable d) (At next) = refl
-  taken_step p d (Refused number place) = refl
+  taken_step p (a_device d) (Ok next) = refl
+  taken_step p (a_parameter d) (Ok next) = refl
+  taken_step p (a_register d) (Ok next) = refl
+  taken_step p (a_variable d) (Ok next) = refl
+  taken_step p d (Err stop) = refl
 
   -- ---- parameters
 
@@ -86,8 +87,8 @@ module _ {X : Type 0} (judge : X → Declaration → X) (text : List ℕ) where
   unfolding fixed_after
   extra-stays k kind s = by (extra_after text kind s) (extra-refuses text kind s)
     where
-      by : (t : Step) → (n : ℕ) × (q : ℕ) × (t ≡ Refused n q) → fixed_after text k t ≡ t
-      by t (n, q, e) = rw e
+      by : (t : Step) → (stop : Refusal) × (t ≡ Err stop) → fixed_after text k t ≡ t
+      by t (stop, e) = rw e
 
   -- a register, a variable, and one by its first word, over steps
   register_by : Progress X → Step → Step
@@ -165,4 +166,4 @@ module _ {X : Type 0} (judge : X → Declaration → X) (text : List ℕ) where
   -- THE TEXT, by the published grammar
   pub reading-grammatical : (x : X) → ByGrammar text (reading_with judge text x).step
   unfolding reading_with moved_to
-  reading-grammatical x = whole-right text _ (follows-device (record { parameters = 0; registers = 0; variables = 0; made = x; step = At 0 }))
+  reading-grammatical x = whole-right text _ (follows-device (record { parameters = 0; registers = 0; variables = 0; made = x; step = Ok 0 }))

@@ -1,17 +1,16 @@
 -- What reading a text comes to, in bytes, by the published grammar and the sizes of document 01: that it reads, or
 -- refusal 3, 4 or 5 with its place.
 -- `proofs/Answers.antt` shows that the reader answers this and nothing else.
-use Rattle.std.specs.Prelude.{ℕ, ◌<◌, ◌≡◌, ◌⊎◌, true, false, List, [], ◌∷◌, length, get_or}
+use Rattle.std.specs.Prelude.{ℕ, ◌<◌, ◌≡◌, ◌⊎◌, true, false, List, [], ◌∷◌, length, get_or, Ok, Err}
 use Rattle.std.proofs.Math.Option.{none, some}
 use Rattle.token.specs.declared.Token.{Token}
 use Rattle.token.specs.declared.Token.TheVariants.{End}
 use Rattle.token.specs.Fair.{place_of, goes_on_lem}
 use Rattle.token.specs.Tokens.{tokens_of}
-use Rattle.token.specs.Kind.{kind_of, refused_as}
+use Rattle.token.specs.Kind.{kind_of, refused_as, number_of}
 use Rattle.grammar.specs.Grammar.{Text, StopsAt}
 use Rattle.syntax.specs.Published.{published, device-spec}
-use Rattle.syntax.specs.declared.reader.Step.{Step}
-use Rattle.syntax.specs.declared.reader.Step.TheVariants.{At, Refused}
+use Rattle.syntax.specs.Step.{Step}
 use Rattle.syntax.specs.Sizes.{passed_at, NotBefore}
 
 -- the kinds of tokens, as the grammar names them, up to the end
@@ -46,5 +45,6 @@ pub record Passes (text : List ℕ) (number place : ℕ) : Type 0 where
 
 -- THE CLAIM. The earliest place decides, and at one place the lower number.
 unfoldable pub Right : List ℕ → Step → Type 0
-Right text (At end) = (end ≡ length text) × InLanguage text × (passed_at text ≡ none)
-Right text (Refused number place) = (Stops text number place × NotBefore (passed_at text) place) ⊎ Passes text number place
+Right text (Ok end) = (end ≡ length text) × InLanguage text × (passed_at text ≡ none)
+Right text (Err refusal) =
+    (Stops text (number_of refusal.why) refusal.place × NotBefore (passed_at text) refusal.place) ⊎ Passes text (number_of refusal.why) refusal.place

@@ -1,6 +1,6 @@
 -- Every list of the language, `(turn)*`: a turn is taken as long as the next token's kind tells one.
 use Rattle.std.specs.Prelude.{ℕ, zero, suc, Bool, true, false, List}
-use Rattle.syntax.specs.declared.reader.Step.{Step}
+use Rattle.syntax.specs.Step.{Step}
 use Rattle.syntax.specs.Reader.{seen_at}
 
 -- `P` is what the list answers, with its step. `room` is never used up where it is the text's length, as a turn takes

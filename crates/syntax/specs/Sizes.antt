@@ -1,15 +1,14 @@
 -- Document 01, "Sizes" and refusal 5: at which token of a text a size is first passed. It is a count over the tokens
 -- from left to right, and knows nothing of how a text is read. It is meant as far as the tokens begin a text of the
 -- grammar; from the token on that breaks it, refusal 3 or 4 is given before.
-use Rattle.std.specs.Prelude.{ℕ, suc, ◌≤◌, ◌≡◌, ◌⊎◌, Bool, true, false, ◌&&◌, ◌||◌, cond, List, [], ◌∷◌, eqb, leb, ltb, length}
+use Rattle.std.specs.Prelude.{ℕ, suc, ◌≤◌, ◌≡◌, ◌⊎◌, Bool, true, false, ◌&&◌, ◌||◌, cond, List, [], ◌∷◌, eqb, leb, ltb, length, Ok, Err}
 use Rattle.std.proofs.Math.Option.{Option, none, some}
 use Rattle.token.specs.declared.Token.{Token}
 use Rattle.token.specs.declared.Token.TheVariants.{Name, Word, Number, Bits, Sign, End, Bad}
 use Rattle.token.specs.Fair.{place_of}
-use Rattle.token.specs.Kind.{kind_of}
+use Rattle.token.specs.Kind.{kind_of, number_of}
 use Rattle.token.specs.Tokens.{tokens_of}
-use Rattle.syntax.specs.declared.reader.Step.{Step}
-use Rattle.syntax.specs.declared.reader.Step.TheVariants.{At, Refused}
+use Rattle.syntax.specs.Step.{Step}
 use Rattle.syntax.specs.Limits.{name_bytes, most_parameters, most_ranges, most_registers, most_variables, most_pieces, deepest}
 use Rattle.syntax.specs.KindNames.{sign, 'register', 'variable'}
 
@@ -147,5 +146,6 @@ NotBefore (some q) p = p ≤ q
 -- A text that reads passes no size; refusal 5 is given at the place where one is first passed; any other, where none is
 -- passed before.
 unfoldable pub Kept : Option ℕ → Step → Type 0
-Kept passed (At end) = passed ≡ none
-Kept passed (Refused number place) = ((number ≡ 5) × (passed ≡ some place)) ⊎ ((number ≡ 5 → ⊥) × NotBefore passed place)
+Kept passed (Ok end) = passed ≡ none
+Kept passed (Err refusal) =
+    ((number_of refusal.why ≡ 5) × (passed ≡ some refusal.place)) ⊎ ((number_of refusal.why ≡ 5 → ⊥) × NotBefore passed refusal.place)

@@ -1,8 +1,7 @@
 -- The whole text: `device name ( param (, param)* ) { (declaration ;)+ }` and then the end. It is read once, whatever a
 -- caller makes of what it declares.
-use Rattle.std.specs.Prelude.{ℕ, ◌+◌, Bool, ◌||◌, cond, List, [], ◌∷◌, ◌++◌, eqb, leb, length, replicate}
-use Rattle.syntax.specs.declared.reader.Step.{Step}
-use Rattle.syntax.specs.declared.reader.Step.TheVariants.{At, Refused}
+use Rattle.std.specs.Prelude.{ℕ, ◌+◌, Bool, ◌||◌, cond, List, [], ◌∷◌, ◌++◌, eqb, leb, length, replicate, Ok, Err}
+use Rattle.syntax.specs.Step.{Step}
 use Rattle.syntax.specs.declared.reader.Named.{Named}
 use Rattle.syntax.specs.declared.register.Register.{Register}
 use Rattle.syntax.specs.declared.text.Outline.{Outline}
@@ -43,18 +42,18 @@ module _ {X : Type 0} (judge : X → Declaration → X) where
   -- one more declaration, which ends at `next`
   unfoldable pub counted : Progress X → Declaration → ℕ → Progress X
   counted p (a_device d) next =
-      record { parameters = p.parameters; registers = p.registers; variables = p.variables; made = judge p.made (a_device d); step = At next }
+      record { parameters = p.parameters; registers = p.registers; variables = p.variables; made = judge p.made (a_device d); step = Ok next }
   counted p (a_parameter d) next =
-      record { parameters = p.parameters + 1; registers = p.registers; variables = p.variables; made = judge p.made (a_parameter d); step = At next }
+      record { parameters = p.parameters + 1; registers = p.registers; variables = p.variables; made = judge p.made (a_parameter d); step = Ok next }
   counted p (a_register d) next =
-      record { parameters = p.parameters; registers = p.registers + 1; variables = p.variables; made = judge p.made (a_register d); step = At next }
+      record { parameters = p.parameters; registers = p.registers + 1; variables = p.variables; made = judge p.made (a_register d); step = Ok next }
   counted p (a_variable d) next =
-      record { parameters = p.parameters; registers = p.registers; variables = p.variables + 1; made = judge p.made (a_variable d); step = At next }
+      record { parameters = p.parameters; registers = p.registers; variables = p.variables + 1; made = judge p.made (a_variable d); step = Ok next }
 
   -- a declaration counts once it is whole; a refusal leaves all as it was
   unfoldable pub taken : Progress X → Declaration → Step → Progress X
-  taken p d (At next) = counted p d next
-  taken p d (Refused number place) = moved_to p (Refused number place)
+  taken p d (Ok next) = counted p d next
+  taken p d (Err refusal) = moved_to p (Err refusal)
 
   module _ (text : List ℕ) where
     -- device name (
@@ -108,10 +107,10 @@ module _ {X : Type 0} (judge : X → Declaration → X) where
         let all : Progress X = more_declarations (length text) (declaration_with (moved_to p (fixed_after text (sign "{") p.step))) in
         moved_to all (fixed_after text (sign "}") all.step)
 
-    -- THE WHOLE TEXT, from `x` on: it reads where its step is `At`.
+    -- THE WHOLE TEXT, from `x` on: it reads where its step is `Ok`.
     unfoldable pub reading_with : X → Progress X
     reading_with x =
-        let all : Progress X = declarations_with (parameters_with (record { parameters = 0; registers = 0; variables = 0; made = x; step = At 0 })) in
+        let all : Progress X = declarations_with (parameters_with (record { parameters = 0; registers = 0; variables = 0; made = x; step = Ok 0 })) in
         moved_to all (fixed_after text end-kind all.step)
 
 -- what a text declares, as a list

@@ -1,8 +1,7 @@
 -- Rule 10's exception: what the words of two masks say of their bits, for any width.
 use Prim.Native.Nat.{ℕ, ◌≤◌, ◌<◌, ◌^◌}
-use mathlib.Core.Path.{◌≡◌, refl, sym, ap, ap₂, ◌∙◌}
+use mathlib.Core.Path.{◌≡◌, refl, sym, ap, ◌∙◌}
 use mathlib.Core.Bool.{Bool, true, false, ◌&&◌, ◌||◌, not, and-false, true≢false, false≢true}
-use mathlib.Core.List.{List}
 use lib.Bits.{bit_and}
 use lib.Dec.{eqb, ltb}
 use borrow.Author.Tests.{eqb-true, eq-eqb, ltb-true, ltb-false}
@@ -11,8 +10,8 @@ use Rattle.bits.specs.Widths.{widest}
 use Rattle.bits.proofs.BitLaws.{bit-over}
 use Rattle.bits.proofs.MaskLaws.{bit_and_lem, same_bits}
 use Rattle.tables.specs.Every.{some}
-use Rattle.tables.specs.Tables.{RegisterPart, register_part_of}
-use Rattle.tables.specs.Rules.{clashes_at, place_taken, tells, told_apart}
+use Rattle.tables.specs.Tables.{RegisterPart}
+use Rattle.tables.specs.Rules.{tells, told_apart}
 use Rattle.tables.proofs.Laws.{some-nowhere, some-none-at}
 
 -- one bit of two masks, fixed (f, g) and `1` (o, p) or not: it does not tell them apart exactly where both, or neither,
@@ -95,14 +94,3 @@ module _ (a b : RegisterPart) where
       let g = bit k b.fixed in
       alike-tells f (bit k a.ones) g (bit k b.ones)
       (ap (λ (d : Bool). d && (f && g)) (sym (in-a k)) ∙ under-both (bit k byte) f g ∙ ap (λ (d : Bool). d && (f && g)) (in_b k)))
-
--- rule 10 for register i's part, whose parameter and offset were read
-pub place-told : (rs : List ℕ) (p i : ℕ) {port offset : ℕ} {r : Bool} → (register_part_of rs p i).present ≡ true → port ≡ (register_part_of rs p i).parameter
-    → offset ≡ (register_part_of rs p i).offset → r ≡ some i (λ j. clashes_at p (register_part_of rs p i) port offset (register_part_of rs p j))
-    → r ≡ place_taken rs p i
-unfolding place_taken
-place-told rs p i here e f is =
-    let clash : ℕ → ℕ → ℕ → Bool = λ x y j. clashes_at p (register_part_of rs p i) x y (register_part_of rs p j) in
-    is
-    ∙ ap₂ (λ (x y : ℕ). some i (clash x y)) e f
-    ∙ sym (ap (λ (b : Bool). b && some i (clash (register_part_of rs p i).parameter (register_part_of rs p i).offset)) here)

@@ -1,14 +1,14 @@
 -- The zeros at the front of a list, one by one: `zeros` is a walk along the list, so that it computes in as many steps
 -- as there are words.
-use Prim.Native.Nat.{ℕ, zero, suc, ◌+◌, ◌-◌, ◌≤◌, ◌<◌}
-use native.Mathlib.Omega.{arith}
+use Prim.Native.Nat.{ℕ, zero, suc, ◌+◌, ◌<◌}
 use mathlib.Core.Path.{◌≡◌, refl, sym, ap, ap₂, ◌∙◌}
 use mathlib.Core.Bool.{Bool, true, false, ◌&&◌, and-true}
 use mathlib.Core.List.{List, [], ◌∷◌}
 use lib.Dec.{eqb}
 use borrow.Author.Tests.{eqb-true, eq-eqb}
-use lib.ListN.{length, get_or, drop, length-drop}
+use lib.ListN.{get_or, drop, take}
 use lib.Seq.{get_or-drop}
+use Rattle.std.specs.List.{list_all}
 use Rattle.tables.specs.Every.{every, zeros, zeros_front}
 use Rattle.tables.proofs.Laws.{every-at, every-is}
 
@@ -37,19 +37,12 @@ zeros-at t from n h k l = eqb-true _ _ (every-at n (λ j. eqb (get_or t (from + 
 pub zeros-are : (t : List ℕ) (from n : ℕ) → ((k : ℕ) → k < n → get_or t (from + k) 0 ≡ 0) → zeros t from n ≡ true
 zeros-are t from n h = sym (zeros-every t from n) ∙ every-is n _ (λ k l. eq-eqb _ _ (h k l))
 
--- past the end of a table all words are zero
-front-past : (m n : ℕ) (t : List ℕ) → length t ≤ m → m ≤ n → zeros_front m t ≡ zeros_front n t
+-- a run of a list's numbers is zeros where it is all 0
+front-all : (n : ℕ) (s : List ℕ) → list_all (λ x. eqb x 0) (take n s) ≡ zeros_front n s
 unfolding zeros_front
-front-past zero zero t h le = refl
-front-past zero (suc n) [] h le = refl
-front-past zero (suc n) (x ∷ t) h le = absurd (omega arith)
-front-past (suc m) zero t h le = absurd (omega arith)
-front-past (suc m) (suc n) [] h le = refl
-front-past (suc m) (suc n) (x ∷ t) h le = ap (λ (b : Bool). eqb x 0 && b) (front-past m n t (omega arith) (omega arith))
+front-all zero s = refl
+front-all (suc n) [] = refl
+front-all (suc n) (x ∷ s) = ap (λ (b : Bool). eqb x 0 && b) (front-all n s)
 
-pub zeros-outside : (t : List ℕ) (from n : ℕ) → length t ≤ from → true ≡ zeros t from n
-unfolding zeros_front
-zeros-outside t from n h = front-past 0 n (drop from t) (omega (arith, length-drop from t)) (omega arith)
-
-pub zeros-left : (t : List ℕ) (from n left : ℕ) {ok : Bool} → left ≡ length t - from → left ≤ n → ok ≡ zeros t from left → ok ≡ zeros t from n
-zeros-left t from n left e le is = is ∙ front-past left n (drop from t) (omega (arith, length-drop from t, e)) le
+pub zeros-all : (t : List ℕ) (from n : ℕ) → list_all (λ x. eqb x 0) (take n (drop from t)) ≡ zeros t from n
+zeros-all t from n = front-all n (drop from t)

@@ -1,5 +1,5 @@
 -- Laws of slices: what a run, a table's entry and the first byte say of them. Assumes nothing.
-use mathlib.Core.Bool.{Bool, true, false, ◌&&◌, not, false≢true, or-true}
+use mathlib.Core.Bool.{Bool, true, false, ◌&&◌, not, false≢true}
 use mathlib.Core.List.{List, [], ◌∷◌, map}
 use mathlib.Core.Path.{◌≡◌, refl, sym, ap, ◌∙◌}
 use Prim.Native.Nat.{ℕ, zero, suc, ◌+◌, ◌≤◌, ◌<◌}
@@ -108,12 +108,6 @@ entry-is (p ∷ table) s e = go (same s p) refl (entry-is table s)
     go false t next =
         let later = next (let h : entry_of table s ≡ true = rw t at e in h) in
         (suc later.0, omega (arith, later.1), later.2)
-
-pub entry_here : (table : List (List ℕ)) (j : ℕ) → j < length table → entry_of table (get_or table j []) ≡ true
-unfolding entry_of
-entry_here [] j h = absurd (omega arith)
-entry_here (p ∷ table) zero h = rw (same_self p)
-entry_here (p ∷ table) (suc j) h = rw (entry_here table j (omega arith), or-true (same (get_or table j []) p))
 
 -- ---- bytes that begin no entry
 -- a test that antt computes: none of the bytes passes

@@ -17,7 +17,7 @@ pub end_is : (text : List ℕ) (i : ℕ) → i < length text → i + length (dro
 end_is text i inside = omega (arith, length-drop i text)
 
 -- a part of a text, by its places and by the bytes to come
-part_of : (text : List ℕ) (i e : ℕ) → i ≤ length text → i ≤ e → take (e - i) (drop i text) ≡ slice i e text
+pub part_of : (text : List ℕ) (i e : ℕ) → i ≤ length text → i ≤ e → take (e - i) (drop i text) ≡ slice i e text
 part_of text i e h le =
     let back : i + (e - i) ≡ e = omega arith in
     sym (part-is text i (e - i) h) ∙ ap (λ (n : ℕ). slice i n text) back

@@ -15,6 +15,10 @@ use Rattle.token.specs.Bytes.{same, first_true, first_that, one_of}
 use Rattle.token.specs.Word.{reserved, word_of}
 use Rattle.token.specs.Slot.{slot_of, word_in}
 use Rattle.logic.proofs.Tests.{or_left, or_right}
+use Rattle.std.specs.Prelude.{Some}
+use Rattle.std.specs.Bool.{then_some}
+use Rattle.token.specs.Bytes.{below}
+use Rattle.token.proofs.Below.{some-below, none_below}
 use Rattle.token.proofs.Table.{at}
 use Rattle.token.proofs.Words.{joined, Begins, entry-fits, entry-is}
 use Rattle.token.proofs.Lexemes.{same-eq, same_self}
@@ -54,7 +58,7 @@ module _ (s : List ℕ) (n k : ℕ) (slot_is : n ≡ slot_of s) (found : k ≡ w
   own : word_of s < 29 → k ≡ word_of s
   own h = found ∙ ap (λ (m : ℕ). word_in m) slot_is ∙ word-slot s h
 
-  pub found_word_lem : k < 29 → same s (get_or reserved k []) ≡ true → k ≡ word_of s
+  found_word_lem : k < 29 → same s (get_or reserved k []) ≡ true → k ≡ word_of s
   found_word_lem h e = go (ltb (word_of s) 29) refl
     where
       go : (b : Bool) → ltb (word_of s) 29 ≡ b → k ≡ word_of s
@@ -71,6 +75,11 @@ module _ (s : List ℕ) (n k : ℕ) (slot_is : n ≡ slot_of s) (found : k ≡ w
           let k-is : k ≡ word_of s = own h in
           let alike : same s (get_or reserved k []) ≡ true = ap (λ (m : ℕ). same s (get_or reserved m [])) k-is ∙ ap (same s) (sym (word-is s h)) ∙ same_self s in
           absurd (true≢false (sym alike ∙ unlike (omega (arith, h, k-is))))
+
+  -- a name with the bytes of the word that has its slot is that word, and any other is none
+  pub word-told : k < 29 → (b : Bool) → b ≡ same s (get_or reserved k []) → then_some b k ≡ below 29 (word_of s)
+  word-told h true e = let is : k ≡ word_of s = found_word_lem h (sym e) in ap Some is ∙ some-below 29 (word_of s) (omega arith)
+  word-told h false e = none_below 29 (word_of s) (let is : 29 ≡ word_of s = other_word (λ h. sym e) in omega arith)
 
 pub empty-word : (t e : ℕ) (l : List ℕ) → t ≡ e → 29 ≡ word_of (slice t e l)
 unfolding word_of reserved same first_true

@@ -14,28 +14,30 @@ pub struct Reader<'a> {
     pub at: usize,
 }
 
-// A reader at a place of a text.
-pub fn reader_at<'a>(text: &'a [u8], at: usize) -> Reader<'a>
-    ensures { (result.text ≡ text.entry) × (result.at ≡ at) }
-{
-    Reader { text, at }
-}
+impl<'a> Reader<'a> {
+    // A reader at a place of a text.
+    pub fn new(text: &'a [u8], at: usize) -> Self
+        ensures { (result.text ≡ text.entry) × (result.at ≡ at) }
+    {
+        Reader { text, at }
+    }
 
-// The token at or after the reader's place. The reader moves on past it.
-pub fn next<'s, 'a>(r: &'s mut Reader<'a>) -> Token
-    ensures { (result ≡ (found r.old).token) × (r.new ≡ moved_on r.old) }
-{
-    let found = token::scan(r.text, r.at);
-    r.at = found.next;
-    found.token
+    // The token at or after the reader's place. The reader moves on past it.
+    pub fn next(&mut self) -> Token
+        ensures { (result ≡ (found self.old).token) × (self.new ≡ moved_on self.old) }
+    {
+        let found = token::scan(self.text, self.at);
+        self.at = found.next;
+        found.token
+    }
 }
 
 // One reading of a reader made for it: what callers with a text and a place of their own go through.
 pub fn scan_at(text: &[u8], at: usize) -> Scanned
     ensures { result ≡ scan_at text.now at }
 {
-    let mut reader = reader_at(text, at);
-    let token = next(&mut reader);
+    let mut reader = Reader::new(text, at);
+    let token = reader.next();
     Scanned {
         token,
         next: reader.at,

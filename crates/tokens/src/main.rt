@@ -3,34 +3,22 @@
 // where.
 #![tactic(auto)]
 
-use frames::Frame;
 use std::io;
-use syntax::Step;
+use std::io::Write;
+use syntax::Outline;
 use token::Token;
 
-fn number_after(out: &mut impl io::Write, word: &[u8], number: usize) -> io::Result<()> {
-    out.write_all(word)?;
-    write!(out, "{number}")
-}
-
 // A token's kind, its first byte's place, and the place behind it.
-fn item(out: &mut impl io::Write, kind: &[u8], place: usize, next: usize) -> io::Result<()> {
-    number_after(out, kind, place)?;
-    number_after(out, b"..", next)
-}
-
 fn show(out: &mut impl io::Write, t: Token, next: usize) -> io::Result<()> {
+    let place = t.place();
     match t {
-        Token::Name(place, _) => item(out, b" name ", place, next),
-        Token::Word(place, _) => item(out, b" word ", place, next),
-        Token::Number(place, value) => {
-            item(out, b" number ", place, next)?;
-            number_after(out, b"=", value as usize)
-        }
-        Token::Bits(place, _) => item(out, b" bits ", place, next),
-        Token::Sign(place, _) => item(out, b" sign ", place, next),
-        Token::End(place) => number_after(out, b" end ", place),
-        Token::Bad(place) => number_after(out, b" bad ", place),
+        Token::Name(_, _) => write!(out, " name {place}..{next}"),
+        Token::Word(_, _) => write!(out, " word {place}..{next}"),
+        Token::Number(_, value) => write!(out, " number {place}..{next}={value}"),
+        Token::Bits(_, _) => write!(out, " bits {place}..{next}"),
+        Token::Sign(_, _) => write!(out, " sign {place}..{next}"),
+        Token::End(_) => write!(out, " end {place}"),
+        Token::Bad(_) => write!(out, " bad {place}"),
     }
 }
 
@@ -39,35 +27,33 @@ fn show_tokens(out: &mut impl io::Write, text: &[u8]) -> io::Result<()> {
     let mut at = 0;
     loop {
         let found = token::scan(text, at);
-        let next = found.token;
-        show(out, next, found.next)?;
-        if token::goes_on(next) {
-            at = found.next;
-        } else {
-            return out.write_all(b"\n");
+        show(out, found.token, found.next)?;
+        if !found.token.goes_on() {
+            return writeln!(out);
         }
+        at = found.next;
     }
 }
 
 fn show_reading(out: &mut impl io::Write, text: &[u8]) -> io::Result<()> {
-    let outline = syntax::read_text(text);
-    let step = outline.step;
+    let Outline {
+        parameters,
+        registers,
+        variables,
+        step,
+    } = syntax::read_text(text);
     match step {
-        Step::At(_) => {
-            number_after(out, b"reads ", outline.parameters)?;
-            number_after(out, b" ", outline.registers)?;
-            number_after(out, b" ", outline.variables)?;
-        }
-        Step::Refused(number, place) => {
-            number_after(out, b"refused ", number as usize)?;
-            number_after(out, b" ", place)?;
+        Ok(_) => writeln!(out, "reads {parameters} {registers} {variables}"),
+        Err(refusal) => {
+            let number = refusal.number();
+            let place = refusal.place;
+            writeln!(out, "refused {number} {place}")
         }
     }
-    out.write_all(b"\n")
 }
 
 fn show_text(out: &mut impl io::Write, text: &[u8]) -> io::Result<()> {
-    out.write_all(b"tokens")?;
+    write!(out, "tokens")?;
     show_tokens(out, text)?;
     show_reading(out, text)
 }
@@ -75,16 +61,11 @@ fn show_text(out: &mut impl io::Write, text: &[u8]) -> io::Result<()> {
 // One frame at a time: a frame ends after it began, so the loop does.
 fn show_all(out: &mut impl io::Write, input: &[u8]) -> io::Result<()> {
     let mut at = 0;
-    loop {
-        let frame = frames::frame_at(input, at);
-        match frame {
-            Frame::Text { start, end, next } => {
-                show_text(out, &input[start..end])?;
-                at = next;
-            }
-            Frame::Nothing => return Ok(()),
-        }
+    while let Some(frame) = frames::frame_at(input, at) {
+        show_text(out, &input[frame.start..frame.end])?;
+        at = frame.next;
     }
+    Ok(())
 }
 
 fn main(rt: HostRuntime) -> io::Result<()> {

@@ -1,5 +1,5 @@
 -- "the reading, taken exactly", and "Gain 1 and offset 0 give exactly the reading" (02, No. 10). Assumes nothing.
-use Rattle.std.proofs.Common.{◌≡◌, ℕ, suc, ◌+◌, ◌-◌, ◌*◌, ◌^◌, ◌<◌, Bool, true, false, cond, ◌&&◌, T, ltb, ℤ, pos, negsuc, sym, refl, ap, ◌∙◌, subst, lt_of_lt_of_le, add-zero, le_of_lt, zero-lt-suc, mul_assoc, mul-pos, zero-mul, mul-one, mul_right_comm, arith, lit≤, lt→ltb, pow_mono, shl_lt, le-ltb}
+use Rattle.std.proofs.Common.{◌≡◌, ℕ, suc, ◌+◌, ◌-◌, ◌*◌, ◌^◌, ◌<◌, Bool, true, false, cond, ◌&&◌, T, Ok, ltb, ℤ, pos, negsuc, sym, refl, ap, ◌∙◌, subst, lt_of_lt_of_le, add-zero, le_of_lt, zero-lt-suc, mul_assoc, mul-pos, zero-mul, mul-one, mul_right_comm, arith, lit≤, lt→ltb, pow_mono, shl_lt, le-ltb}
 use mathlib.Core.Bool.{false≢true}
 use native.Mathlib.Nat.{eq_of_mul-eq-mul_right}
 use lib.Ieee.{Float, nan, inf, fin, binary64, emax, low, up, down, round, mul, add, sum, of_int, fits, unlike}
@@ -8,7 +8,6 @@ use lib.Ieee.Exact.{HasValue, round_exact}
 use lib.Ieee.Back.{round_whole, whole_unique}
 use lib.Ieee.Scale.{round_same}
 use Rattle.units.specs.declared.Calibration.{Calibration}
-use Rattle.units.specs.declared.Answer.TheVariants.{Value}
 use Rattle.units.specs.Units.{is_finite, is_usable, product, in_units, converted}
 use Rattle.units.proofs.UnitLaws.{answers-finite}
 use Rattle.units.specs.Claim.{IsReading, is_negative, magnitude, one, zero_of, InUnitsExactly}
@@ -147,7 +146,7 @@ module _ (z : ℤ) (c : Calibration) (h : magnitude z < 2 ^ 53) (gain : c.gain �
   unfolding is_usable is_finite
   plain-usable = rw (gain, offset)
 
-  gives-reading : converted z c ≡ Value (of_int binary64 z)
+  gives-reading : converted z c ≡ Ok (of_int binary64 z)
   unfolding converted
   gives-reading = rw (plain-usable, product-plain, sum-plain, has-value-finite _ _ _ value)
 

@@ -1,10 +1,10 @@
 -- Patterns of 64 bits: every one that is no number is the one NaN of the logic. Assumes nothing.
-use Rattle.std.proofs.Common.{◌≡◌, ℕ, Bool, true, false, not, T, sym, refl, ap, ◌∙◌, subst, true≢false}
+use Rattle.std.proofs.Common.{◌≡◌, ℕ, Bool, true, false, not, T, Result, Ok, Err, MatchResult, IsOkAnd, sym, refl, ap, ◌∙◌, subst, true≢false}
 use mathlib.Core.Bool.{false≢true}
-use lib.Ieee.{Float, nan, inf, fin, binary64, ne, eq, of_bits, to_bits, nan_bits, is_nan}
+use lib.Ieee.{Float, nan, inf, fin, binary64, of_bits, to_bits, nan_bits, is_nan}
 use lib.Ieee.Bits.{nan_bits_is}
-use lib.Ieee.Compare.{differs_from_itself}
-use Rattle.units.specs.Lines.{bits_of}
+use Rattle.units.specs.declared.unconverted.Unconverted.{Unconverted}
+use Rattle.units.specs.Lines.{bits_of, told_as}
 
 pub nan_pattern : (b : ℕ) {t : Bool} → t ≡ nan_bits binary64 b → t ≡ true → nan ≡ of_bits binary64 b
 unfolding is_nan
@@ -18,19 +18,23 @@ nan_pattern b is so = sym (only (of_bits binary64 b) (sym (nan_bits_is binary64 
 pub number-pattern : (b : ℕ) {t : Bool} → t ≡ nan_bits binary64 b → t ≡ false → T (not (nan_bits binary64 b))
 number-pattern b is not_so = subst (λ (t : Bool). T (not t)) (sym (sym is ∙ not_so)) tt
 
--- a double that differs from itself is no number
-pub nan-told : (x : Float) → ne x x ≡ true → 0x7ff8_0000_0000_0000 ≡ bits_of x
-unfolding bits_of
-nan-told x differs = ap bits_of (sym (differs_from_itself x (subst T (sym differs) tt)))
-
-pub like-itself : (x : Float) → ne x x ≡ false → T (not (is_nan x))
-unfolding is_nan ne eq
-like-itself nan e = absurd (true≢false e)
-like-itself (inf s) e = tt
-like-itself (fin s m k) e = tt
-
-pub number-told : (x : Float) → T (not (is_nan x)) → to_bits binary64 x ≡ bits_of x
+-- a double's pattern, of what is no number and of what is
+pub nan-told : (x : Float) → is_nan x ≡ true → 0x7ff8_0000_0000_0000 ≡ bits_of x
 unfolding bits_of is_nan
-number-told nan h = absurd h
-number-told (inf s) h = refl
-number-told (fin s m e) h = refl
+nan-told nan e = refl
+nan-told (inf s) e = absurd (false≢true e)
+nan-told (fin s m k) e = absurd (false≢true e)
+
+pub number-told : (x : Float) → is_nan x ≡ false → to_bits binary64 x ≡ bits_of x
+unfolding bits_of is_nan
+number-told nan e = absurd (true≢false e)
+number-told (inf s) e = refl
+number-told (fin s m k) e = refl
+
+-- a value's pattern, or why there is no value
+pub told-is : (answer : Result Float Unconverted) (r : Result ℕ Unconverted)
+    → MatchResult answer (λ x. IsOkAnd r (λ y. y ≡ bits_of x)) (λ why. r ≡ Err why) → r ≡ told_as answer
+unfolding told_as
+told-is (Ok x) (Ok y) h = ap Ok h
+told-is (Ok x) (Err why) h = absurd h
+told-is (Err why) r h = h

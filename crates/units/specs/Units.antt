@@ -1,11 +1,11 @@
 -- Readings in units (02, No. 10), in the kit's exact account of IEEE 754 (lib.Ieee): `of_int`, `mul` and `add` work out
 -- the exact number and round it once, to nearest, ties to even.
-use Rattle.std.specs.Prelude.{Bool, true, false, cond, not, ◌&&◌, ℤ, Float}
+use Rattle.std.specs.Prelude.{Bool, true, false, cond, not, ◌&&◌, Result, Ok, Err, ℤ, Float}
 use Rattle.std.specs.Float.{nan, inf, fin, binary64}
 use Rattle.std.specs.Float.Ieee.{add, mul, of_int}
 use Rattle.units.specs.declared.Calibration.{Calibration}
-use Rattle.units.specs.declared.Answer.{Answer}
-use Rattle.units.specs.declared.Answer.TheVariants.{Value, Refused}
+use Rattle.units.specs.declared.unconverted.Unconverted.{Unconverted}
+use Rattle.units.specs.declared.unconverted.Unconverted.TheVariants.{Unusable, Infinite}
 
 unfoldable pub is_finite : Float → Bool
 is_finite nan = false
@@ -24,9 +24,9 @@ product z c = mul binary64 (of_int binary64 z) c.gain
 unfoldable pub in_units : ℤ → Calibration → Float
 in_units z c = add binary64 (product z c) c.offset
 
--- 53: "A gain or offset not finite"; 54: "a product or sum not finite"
-unfoldable pub converted : ℤ → Calibration → Answer
+-- "A gain or offset not finite", or "a product or sum not finite": the numbers are in Unconverted
+unfoldable pub converted : ℤ → Calibration → Result Float Unconverted
 converted z c =
-    cond (not (is_usable c)) (Refused 53)
-    (cond (is_finite (product z c) && is_finite (in_units z c)) (Value (in_units z c))
-    (Refused 54))
+    cond (not (is_usable c)) (Err Unusable)
+    (cond (is_finite (product z c) && is_finite (in_units z c)) (Ok (in_units z c))
+    (Err Infinite))

@@ -1,10 +1,10 @@
 // Doubles as patterns of 64 bits, as they come in from other programs.
-ghost use Rattle.std.specs.Prelude.{◌≡◌, pos, from_bits};
+ghost use Rattle.std.specs.Prelude.{◌≡◌, from_bits};
 ghost use Rattle.std.specs.Float.{binary64};
 ghost use Rattle.std.specs.Float.Ieee.{nan_bits};
-ghost use Rattle.units.specs.Lines.{calibration_of, bits_of, told_as, line_of};
+ghost use Rattle.units.specs.Lines.{calibration_of, bits_of, line_of};
 
-use crate::{Answer, Calibration, convert};
+use crate::{Calibration, Unconverted, convert};
 
 fn has_nan(bits: u64) -> bool
     ensures { result ≡ nan_bits binary64 bits }
@@ -13,15 +13,15 @@ fn has_nan(bits: u64) -> bool
         & (bits % 0x0010_0000_0000_0000 != 0)
 }
 
-// Every pattern that is no number is the one NaN: infinity less infinity.
+// Every pattern that is no number is the one NaN.
 fn float_of(bits: u64) -> f64
     ensures { result ≡ from_bits binary64 bits }
 {
     if has_nan(bits) {
-        let infinite = f64::from_bits(0x7ff0_0000_0000_0000);
-        return infinite - infinite;
+        f64::NAN
+    } else {
+        f64::from_bits(bits)
     }
-    f64::from_bits(bits)
 }
 
 pub fn calibration_of(gain: u64, offset: u64) -> Calibration
@@ -37,37 +37,16 @@ pub fn calibration_of(gain: u64, offset: u64) -> Calibration
 pub fn bits_of(x: f64) -> u64
     ensures { result ≡ bits_of x }
 {
-    if x != x {
-        return 0x7ff8_0000_0000_0000;
-    }
-    f64::to_bits(x)
-}
-
-// What one record of the program's input comes to: the result's 64 bits, or the refusal.
-#[derive(Clone, Copy)]
-pub enum Line {
-    Bits(u64),
-    Refusal(usize),
-}
-
-fn told(answer: Answer) -> Line
-    ensures { result ≡ told_as answer }
-{
-    match answer {
-        Answer::Value(x) => Line::Bits(bits_of(x)),
-        Answer::Refused(number) => Line::Refusal(number),
+    if x.is_nan() {
+        0x7ff8_0000_0000_0000
+    } else {
+        f64::to_bits(x)
     }
 }
 
-// A reading without a sign, as the conversion takes it.
-fn unsigned(reading: u32) -> i64
-    ensures { result ≡ pos reading }
-{
-    reading as i64
-}
-
-pub fn line_of(gain: u64, offset: u64, reading: u32) -> Line
+// What one record of the program's input comes to: the result's 64 bits, or why there are none.
+pub fn line_of(gain: u64, offset: u64, reading: u32) -> Result<u64, Unconverted>
     ensures { result ≡ line_of gain offset reading }
 {
-    told(convert(unsigned(reading), calibration_of(gain, offset)))
+    convert(i64::from(reading), calibration_of(gain, offset)).map(bits_of)
 }

@@ -2,10 +2,9 @@
 use details::entries::variable_has;
 use details::places::opening;
 use std::io;
-use syntax::Step;
 use tables::Part;
 use wording::parts::last;
-use wording::write::{for_part, write};
+use wording::write::for_part;
 
 // How often a part is made a trigger: by its own attribute, and by a bare one.
 fn show_trigger(
@@ -16,12 +15,13 @@ fn show_trigger(
     part: Part,
 ) -> io::Result<()> {
     let present = variable_has(variables, last(variables), part);
-    if present & (1 < (own as u32) + (bare as u32)) {
-        write(out, b"two triggers")?;
+    let times = u32::from(own) + u32::from(bare);
+    if present && 1 < times {
+        write!(out, "two triggers")?;
         for_part(out, part)?;
     }
-    if !present & (0 < own) {
-        write(out, b"a trigger, but no bits")?;
+    if !present && 0 < own {
+        write!(out, "a trigger, but no bits")?;
         for_part(out, part)?;
     }
     Ok(())
@@ -29,11 +29,11 @@ fn show_trigger(
 
 fn show_volatile(out: &mut impl io::Write, variables: &[u32], times: u8) -> io::Result<()> {
     if 1 < times {
-        write(out, b"`volatile` stands twice\n")?;
-    } else if (0 < times) & !variable_has(variables, last(variables), Part::Read) {
-        write(
+        writeln!(out, "`volatile` stands twice")?;
+    } else if 0 < times && !variable_has(variables, last(variables), Part::Read) {
+        writeln!(
             out,
-            b"`volatile` speaks of reading, and there are no bits for it\n",
+            "`volatile` speaks of reading, and there are no bits for it"
         )?;
     }
     Ok(())
@@ -45,12 +45,12 @@ pub fn show_attributes(
     variables: &[u32],
     place: usize,
 ) -> io::Result<()> {
+    // The reading lays five numbers for each of at most 8 pieces into a list that it is lent.
     let mut first = [0usize; 40];
     let mut second = [0usize; 40];
-    let open = opening(text, place);
-    let variable = syntax::variable_after(text, Step::At(open), &mut first, &mut second);
-    let rest = variable.rest;
-    let b = rest.behaviours;
+    let open = opening(text, place).unwrap_or(text.len());
+    let variable = syntax::variable_after(text, Ok(open), &mut first, &mut second);
+    let b = variable.rest.behaviours;
     show_volatile(out, variables, b.volatile)?;
     show_trigger(out, variables, b.read, b.bare, Part::Read)?;
     show_trigger(out, variables, b.write, b.bare, Part::Write)

@@ -1,23 +1,12 @@
 // Refusal 16: the dots of a register that no variable maps, and the mask without them.
 use details::broken::{first_bare, is_bare};
-use details::entries::{mask_bit, register_name, register_width};
+use details::entries::{Entry, mask_bit, register_width};
 use rules::words::narrow;
 use std::io;
 use tables::Part;
-use wording::write::{for_part, say_name, say_number, write};
+use wording::write::{for_part, say_name, write};
 
-// One bit of the list, highest first.
-fn show_listed(out: &mut impl io::Write, b: u32, bare: bool, first: bool) -> io::Result<()> {
-    if bare {
-        if !first {
-            write(out, b",")?;
-        }
-        say_number(out, b" #", b as usize)?;
-    }
-    Ok(())
-}
-
-// The bits, as 7, 3, 0.
+// The bits, highest first, as 7, 3, 0.
 fn show_bits(
     out: &mut impl io::Write,
     registers: &[u32],
@@ -25,39 +14,33 @@ fn show_bits(
     i: u32,
     part: Part,
 ) -> io::Result<()> {
-    let mut left = narrow(register_width(registers, i));
-    let mut first = true;
-    while 0 < left {
-        let bare = is_bare(registers, variables, i, part, left - 1);
-        show_listed(out, left - 1, bare, first)?;
-        first = first & !bare;
-        left -= 1;
+    let mut separator = " ";
+    for b in (0..narrow(register_width(registers, i))).rev() {
+        if is_bare(registers, variables, i, part, b) {
+            write!(out, "{separator}{b}")?;
+            separator = ", ";
+        }
     }
     Ok(())
 }
 
-// An element of the mask that has `*` where no variable maps a dot.
-fn show_element(
-    out: &mut impl io::Write,
-    registers: &[u32],
-    i: u32,
-    part: Part,
-    b: u32,
-    bare: bool,
-) -> io::Result<()> {
-    if bare {
-        write(out, b"*")
+// An element of the mask that has `*` where no variable maps a dot. Words 3, 4 and 5 of a part are its dots, what is
+// fixed, and its ones.
+fn element(registers: &[u32], variables: &[u32], i: u32, part: Part, b: u32) -> char {
+    if is_bare(registers, variables, i, part, b) {
+        '*'
     } else if mask_bit(registers, i, part, 3, b) {
-        write(out, b".")
+        '.'
     } else if !mask_bit(registers, i, part, 4, b) {
-        write(out, b"*")
+        '*'
     } else if mask_bit(registers, i, part, 5, b) {
-        write(out, b"1")
+        '1'
     } else {
-        write(out, b"0")
+        '0'
     }
 }
 
+// The elements between quotes, highest first.
 fn show_mask(
     out: &mut impl io::Write,
     registers: &[u32],
@@ -65,14 +48,11 @@ fn show_mask(
     i: u32,
     part: Part,
 ) -> io::Result<()> {
-    let mut left = narrow(register_width(registers, i));
-    write(out, b"'")?;
-    while 0 < left {
-        let bare = is_bare(registers, variables, i, part, left - 1);
-        show_element(out, registers, i, part, left - 1, bare)?;
-        left -= 1;
+    write!(out, "'")?;
+    for b in (0..narrow(register_width(registers, i))).rev() {
+        write!(out, "{}", element(registers, variables, i, part, b))?;
     }
-    write(out, b"'")
+    write!(out, "'")
 }
 
 // dots of `r` that no variable maps: 7, 3, 0 for reading
@@ -85,15 +65,15 @@ pub fn show_bare(
     i: u32,
     part: Part,
 ) -> io::Result<()> {
-    if (first_bare(registers, variables, i, part) as usize) < bits::WIDEST {
+    if first_bare(registers, variables, i, part).is_some() {
         say_name(
             out,
             b"dots of $ that no variable maps:",
-            register_name(text, registers, i),
+            Entry::Register.name(text, registers, i),
         )?;
         show_bits(out, registers, variables, i, part)?;
         for_part(out, part)?;
-        write(out, b"the mask that leaves them out: ")?;
+        write!(out, "the mask that leaves them out: ")?;
         show_mask(out, registers, variables, i, part)?;
         for_part(out, part)?;
     }

@@ -25,15 +25,12 @@ pub fn show_why(
     rule: u32,
     place: usize,
 ) -> io::Result<()> {
-    if rule < 6 {
-        reading::show_reading(out, text, rule, place)
-    } else if rule < 8 {
-        names::show_name(
+    match rule {
+        0..=5 => reading::show_reading(out, text, rule, place),
+        6 | 7 => names::show_name(
             out, text, judging, parameters, registers, variables, rule, place,
-        )
-    } else if rule < 11 {
-        ports::show_ports(out, text, parameters, registers, rule, place)
-    } else {
-        lists::show_lists(out, text, parameters, registers, variables, rule, place)
+        ),
+        8..=10 => ports::show_ports(out, text, parameters, registers, rule, place),
+        _ => lists::show_lists(out, text, parameters, registers, variables, rule, place),
     }
 }

@@ -1,17 +1,20 @@
 // Refusals 11 to 16: bits, by the names of their registers and variables.
-use details::broken::first_shared;
+use crate::attributes::show_attributes;
+use crate::bare::show_bare;
+use crate::pieces::show_pieces;
+use details::broken::{shared_bit, shared_register};
 use details::entries::{
-    parameter_name, parameter_width, register_has, register_name, register_place, register_width,
-    variable_has, variable_name, variable_part, variable_place, variable_width,
+    Entry, count_of, parameter_width, register_has, register_width, variable_has, variable_part,
+    variable_width,
 };
-use details::holders::{Shared, pulls_trigger};
-use details::search::{Test, first_in};
+use details::holders::pulls_trigger;
+use details::search::named_at;
 use rules::words::narrow;
 use std::io;
 use tables::Part;
 use tables::pieces::bit_count;
 use wording::parts::{last, port_of, show_bit};
-use wording::write::{for_part, say, say_name, say_number, write};
+use wording::write::{for_part, say, say_name};
 
 // 14: bit 4 of `r` is mapped already by `v` for reading
 fn show_taken(
@@ -21,15 +24,12 @@ fn show_taken(
     variables: &[u32],
     part: Part,
 ) -> io::Result<()> {
-    let v = last(variables);
-    let bit = first_shared(variables, v, part, Shared::Bit);
-    if bit < 4096 {
-        let u = first_in(variables, Test::Shares(v, part, Shared::Bit, bit));
+    if let Some((bit, u)) = shared_bit(variables, last(variables), part) {
         show_bit(out, text, registers, bit)?;
         say_name(
             out,
             b" is mapped already by $",
-            variable_name(text, variables, u),
+            Entry::Variable.name(text, variables, u),
         )?;
         for_part(out, part)?;
     }
@@ -43,9 +43,9 @@ fn show_puller(
     v: u32,
     part: Part,
 ) -> io::Result<()> {
-    say_name(out, b" of $", variable_name(text, variables, v))?;
+    say_name(out, b" of $", Entry::Variable.name(text, variables, v))?;
     if pulls_trigger(variables, part, v) {
-        write(out, b" (a trigger)")?;
+        write!(out, " (a trigger)")?;
     }
     Ok(())
 }
@@ -59,16 +59,14 @@ fn show_pulled(
     part: Part,
 ) -> io::Result<()> {
     let v = last(variables);
-    let register = first_shared(variables, v, part, Shared::Register);
-    if register < 64 {
-        let u = first_in(variables, Test::Shares(v, part, Shared::Register, register));
+    if let Some((register, u)) = shared_register(variables, v, part) {
         say_name(
             out,
             b"$ holds bits",
-            register_name(text, registers, narrow(register)),
+            Entry::Register.name(text, registers, narrow(register)),
         )?;
         show_puller(out, text, variables, u, part)?;
-        write(out, b" and")?;
+        write!(out, " and")?;
         show_puller(out, text, variables, v, part)?;
         for_part(out, part)?;
     }
@@ -76,17 +74,16 @@ fn show_pulled(
 }
 
 fn show_width(out: &mut impl io::Write, width: usize) -> io::Result<()> {
-    say_number(
+    writeln!(
         out,
-        b"its width is #, and only 8, 16 and 32 are allowed\n",
-        width,
+        "its width is {width}, and only 8, 16 and 32 are allowed"
     )
 }
 
 // Has register i this part, at a port of another width?
 fn is_unlike(parameters: &[u32], registers: &[u32], i: u32, part: Part) -> bool {
     let port = parameter_width(parameters, port_of(registers, i, part));
-    register_has(registers, i, part) & (port != register_width(registers, i))
+    register_has(registers, i, part) && port != register_width(registers, i)
 }
 
 // its width is 8, and that of its port `base` is 16
@@ -99,7 +96,7 @@ fn show_unlike(
     part: Part,
 ) -> io::Result<()> {
     let port = port_of(registers, i, part);
-    let name = parameter_name(text, parameters, port);
+    let name = Entry::Parameter.name(text, parameters, port);
     say(
         out,
         b"its width is #, and that of its port $",
@@ -107,7 +104,7 @@ fn show_unlike(
         name,
         b"",
     )?;
-    say_number(out, b" is #\n", parameter_width(parameters, port))
+    writeln!(out, " is {}", parameter_width(parameters, port))
 }
 
 fn show_register(
@@ -128,27 +125,23 @@ fn show_register(
 }
 
 // ; of its read part: 12
-fn show_bits_of(
-    out: &mut impl io::Write,
-    variables: &[u32],
-    v: u32,
-    part: Part,
-    words: &[u8],
-) -> io::Result<()> {
+fn show_bits_of(out: &mut impl io::Write, variables: &[u32], v: u32, part: Part) -> io::Result<()> {
     let at = variable_part(v, part);
-    if at < 4294967296 {
-        if variable_has(variables, v, part) {
-            say_number(out, words, bit_count(variables, at))?;
-        }
+    if at < 4294967296 && variable_has(variables, v, part) {
+        let name = match part {
+            Part::Read => "read",
+            Part::Write => "write",
+        };
+        write!(out, "; of its {name} part: {}", bit_count(variables, at))?;
     }
     Ok(())
 }
 
 fn show_type(out: &mut impl io::Write, variables: &[u32], v: u32) -> io::Result<()> {
-    say_number(out, b"bits of its type: #", variable_width(variables, v))?;
-    show_bits_of(out, variables, v, Part::Read, b"; of its read part: #")?;
-    show_bits_of(out, variables, v, Part::Write, b"; of its write part: #")?;
-    write(out, b"\n")
+    write!(out, "bits of its type: {}", variable_width(variables, v))?;
+    show_bits_of(out, variables, v, Part::Read)?;
+    show_bits_of(out, variables, v, Part::Write)?;
+    writeln!(out)
 }
 
 // 12: a variable, a register or a parameter, whichever is declared there.
@@ -162,9 +155,9 @@ fn show_widths(
 ) -> io::Result<()> {
     let v = last(variables);
     let i = last(registers);
-    if variable_place(variables, v) == place {
+    if Entry::Variable.place(variables, v) == place {
         show_type(out, variables, v)
-    } else if register_place(registers, i) == place {
+    } else if Entry::Register.place(registers, i) == place {
         show_register(out, text, parameters, registers, i)
     } else {
         show_width(out, parameter_width(parameters, last(parameters)))
@@ -179,16 +172,20 @@ fn show_late(
     rule: u32,
     place: usize,
 ) -> io::Result<()> {
-    if rule == 14 {
-        show_taken(out, text, registers, variables, Part::Read)?;
-        show_taken(out, text, registers, variables, Part::Write)
-    } else if rule == 15 {
-        show_pulled(out, text, registers, variables, Part::Read)?;
-        show_pulled(out, text, registers, variables, Part::Write)
-    } else {
-        let i = first_in(registers, Test::Named(place));
-        crate::bare::show_bare(out, text, registers, variables, i, Part::Read)?;
-        crate::bare::show_bare(out, text, registers, variables, i, Part::Write)
+    match rule {
+        14 => {
+            show_taken(out, text, registers, variables, Part::Read)?;
+            show_taken(out, text, registers, variables, Part::Write)
+        }
+        15 => {
+            show_pulled(out, text, registers, variables, Part::Read)?;
+            show_pulled(out, text, registers, variables, Part::Write)
+        }
+        _ => {
+            let i = named_at(registers, place).unwrap_or(count_of(registers));
+            show_bare(out, text, registers, variables, i, Part::Read)?;
+            show_bare(out, text, registers, variables, i, Part::Write)
+        }
     }
 }
 
@@ -201,13 +198,10 @@ pub fn show_lists(
     rule: u32,
     place: usize,
 ) -> io::Result<()> {
-    if rule == 11 {
-        crate::pieces::show_pieces(out, text, registers, variables, place)
-    } else if rule == 12 {
-        show_widths(out, text, parameters, registers, variables, place)
-    } else if rule == 13 {
-        crate::attributes::show_attributes(out, text, variables, place)
-    } else {
-        show_late(out, text, registers, variables, rule, place)
+    match rule {
+        11 => show_pieces(out, text, registers, variables, place),
+        12 => show_widths(out, text, parameters, registers, variables, place),
+        13 => show_attributes(out, text, variables, place),
+        _ => show_late(out, text, registers, variables, rule, place),
     }
 }

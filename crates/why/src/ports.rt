@@ -1,63 +1,50 @@
 // Refusals 8, 9 and 10: offsets, ports and masks, and places that are taken.
-use details::entries::{mask_bit, parameter_name, part_number, register_has, register_name};
+use details::entries::{Entry, mask_bit, range_count, register_has};
 use details::places::opening;
-use details::search::{Test, first_in};
+use details::search::{clashing, could_tell, misfit, telling};
 use expression::Worth;
 use rules::modifiers::are_paired;
-use rules::names::{find, index_of, name_of};
+use rules::names::{find, name_of};
 use rules::words::narrow;
 use std::io;
-use syntax::{Masks, Port, Register, Step};
+use syntax::{Masks, Port, Register};
 use tables::Part;
 use tables::parameters::offset_in;
 use wording::parts::{last, show_offsets, show_place, show_range};
-use wording::write::{for_part, say_name, say_number, write};
+use wording::write::{for_part, say, say_name};
 
 fn show_misfit(out: &mut impl io::Write, text: &[u8], parameters: &[u32]) -> io::Result<()> {
     let i = last(parameters);
-    write(out, b"the range ")?;
-    show_range(out, parameters, i, first_in(parameters, Test::Misfit(i)))?;
+    let k = misfit(parameters, i).unwrap_or(range_count(parameters, i));
+    write!(out, "the range ")?;
+    show_range(out, parameters, i, k)?;
     say_name(
         out,
         b" of $ goes down, or past 255\n",
-        parameter_name(text, parameters, i),
+        Entry::Parameter.name(text, parameters, i),
     )
 }
 
 // The parameter that a port names.
 fn port_parameter(text: &[u8], parameters: &[u32], port: Port) -> u32 {
     let name = name_of(text, port.place, port.length);
-    narrow(index_of(find(text, parameters, 36, name)))
-}
-
-// An offset that is not below 0, as a number of the tables.
-fn natural(n: i32) -> usize {
-    if n < 0 { 0 } else { n as usize }
+    narrow(find(text, parameters, 36, name).unwrap_or(0))
 }
 
 fn is_placed(text: &[u8], parameters: &[u32], port: Port) -> bool {
-    let worth = port.worth;
-    match worth {
-        Worth::Good(n) => {
-            let i = port_parameter(text, parameters, port);
-            (0 <= n) & offset_in(parameters, i as usize, natural(n))
-        }
-        Worth::Bad => false,
-    }
+    let i = port_parameter(text, parameters, port);
+    port.worth
+        .and_then(|n| usize::try_from(n).ok())
+        .is_some_and(|n| offset_in(parameters, i as usize, n))
 }
 
 fn show_worth(out: &mut impl io::Write, worth: Worth) -> io::Result<()> {
     match worth {
-        Worth::Good(n) => {
-            if n < 0 {
-                write(out, b"the offset is below 0")
-            } else {
-                say_number(out, b"the offset is #", natural(n))
-            }
-        }
-        Worth::Bad => write(
+        Some(n @ 0..) => write!(out, "the offset is {n}"),
+        Some(_) => write!(out, "the offset is below 0"),
+        None => write!(
             out,
-            b"the offset divides by zero, or leaves the range of 32 bits",
+            "the offset divides by zero, or leaves the range of 32 bits"
         ),
     }
 }
@@ -70,11 +57,14 @@ fn show_unplaced(
     port: Port,
 ) -> io::Result<()> {
     let i = port_parameter(text, parameters, port);
-    let worth = port.worth;
-    show_worth(out, worth)?;
-    say_name(out, b"; $ has the ", parameter_name(text, parameters, i))?;
+    show_worth(out, port.worth)?;
+    say_name(
+        out,
+        b"; $ has the ",
+        Entry::Parameter.name(text, parameters, i),
+    )?;
     show_offsets(out, parameters, i)?;
-    write(out, b"\n")
+    writeln!(out)
 }
 
 fn show_offset(
@@ -83,43 +73,35 @@ fn show_offset(
     parameters: &[u32],
     register: Register,
 ) -> io::Result<()> {
-    let first = register.first;
-    let second = register.second;
-    if is_placed(text, parameters, first) {
-        show_unplaced(out, text, parameters, second)
+    let port = if is_placed(text, parameters, register.first) {
+        register.second
     } else {
-        show_unplaced(out, text, parameters, first)
-    }
+        register.first
+    };
+    show_unplaced(out, text, parameters, port)
 }
 
 fn show_masks(out: &mut impl io::Write, masks: Masks, width: u32) -> io::Result<()> {
-    if masks.odd | (syntax::is_masked(masks) & (masks.extent != width as usize)) {
-        say_number(
-            out,
-            b"a mask has another number of elements than #\n",
-            width as usize,
-        )
+    if masks.odd || masks.is_masked() && masks.extent != width as usize {
+        writeln!(out, "a mask has another number of elements than {width}")
     } else if 1 < masks.bare {
-        write(out, b"two masks without `read` or `write`\n")
+        writeln!(out, "two masks without `read` or `write`")
     } else {
-        write(
+        writeln!(
             out,
-            b"a part has two masks, or a mask is for a part that the register has not\n",
+            "a part has two masks, or a mask is for a part that the register has not"
         )
     }
 }
 
 fn show_pairing(out: &mut impl io::Write, register: Register) -> io::Result<()> {
-    let first = register.first;
-    let second = register.second;
-    if !are_paired(!register.two, first.mark, second.mark) {
-        write(
-            out,
-            b"of two ports, one is for `read` and the other for `write`\n",
-        )
+    if are_paired(!register.two, register.first.mark, register.second.mark) {
+        show_masks(out, register.masks, register.width)
     } else {
-        let masks = register.masks;
-        show_masks(out, masks, register.width)
+        writeln!(
+            out,
+            "of two ports, one is for `read` and the other for `write`"
+        )
     }
 }
 
@@ -131,12 +113,9 @@ fn show_wanted(
     i: u32,
     one: bool,
 ) -> io::Result<()> {
-    let name = register_name(text, registers, i);
-    if one {
-        say_name(out, b"$ had `0` there", name)
-    } else {
-        say_name(out, b"$ had `1` there", name)
-    }
+    let name = Entry::Register.name(text, registers, i);
+    let bit = usize::from(!one);
+    say(out, b"$ had `#` there", bit, name, b"")
 }
 
 // A bit that is fixed in one mask and `*` in the other would do.
@@ -148,9 +127,8 @@ fn show_chance(
     part: Part,
     j: u32,
 ) -> io::Result<()> {
-    let b = first_in(registers, Test::CouldTell(i, part, j));
-    if (b as usize) < bits::WIDEST {
-        say_number(out, b"; bit # would tell them apart if ", b as usize)?;
+    if let Some(b) = could_tell(registers, i, part, j) {
+        write!(out, "; bit {b} would tell them apart if ")?;
         if mask_bit(registers, i, part, 4, b) {
             show_wanted(out, text, registers, j, mask_bit(registers, i, part, 5, b))?;
         } else {
@@ -169,17 +147,15 @@ fn show_apart(
     part: Part,
     j: u32,
 ) -> io::Result<()> {
-    let b = first_in(registers, Test::Tells(i, part, j));
-    if (b as usize) < bits::WIDEST {
-        say_number(
+    if let Some(b) = telling(registers, i, part, j) {
+        writeln!(
             out,
-            b"bit # tells their masks apart, but a place is shared for writing only\n",
-            b as usize,
+            "bit {b} tells their masks apart, but a place is shared for writing only"
         )?;
-    } else if part_number(part) == 1 {
-        write(out, b"no bit is fixed 0 in one mask and 1 in the other")?;
+    } else if part == Part::Write {
+        write!(out, "no bit is fixed 0 in one mask and 1 in the other")?;
         show_chance(out, text, registers, i, part, j)?;
-        write(out, b"\n")?;
+        writeln!(out)?;
     }
     Ok(())
 }
@@ -193,10 +169,15 @@ fn show_served(
     part: Part,
 ) -> io::Result<()> {
     let i = last(registers);
-    let j = first_in(registers, Test::Clashes(i, part));
-    if register_has(registers, i, part) & (j < i) {
+    if register_has(registers, i, part)
+        && let Some(j) = clashing(registers, i, part)
+    {
         show_place(out, text, parameters, registers, i, part)?;
-        say_name(out, b" serves $ already", register_name(text, registers, j))?;
+        say_name(
+            out,
+            b" serves $ already",
+            Entry::Register.name(text, registers, j),
+        )?;
         for_part(out, part)?;
         show_apart(out, text, registers, i, part, j)?;
     }
@@ -211,18 +192,17 @@ pub fn show_ports(
     rule: u32,
     place: usize,
 ) -> io::Result<()> {
-    let open = opening(text, place);
     if rule == 10 {
         show_served(out, text, parameters, registers, Part::Read)?;
-        show_served(out, text, parameters, registers, Part::Write)
-    } else if open < text.len() {
-        let register = syntax::register_after(text, Step::At(open));
-        if rule == 8 {
-            show_offset(out, text, parameters, register)
-        } else {
-            show_pairing(out, register)
-        }
+        return show_served(out, text, parameters, registers, Part::Write);
+    }
+    let Some(open) = opening(text, place) else {
+        return show_misfit(out, text, parameters);
+    };
+    let register = syntax::register_after(text, Ok(open));
+    if rule == 8 {
+        show_offset(out, text, parameters, register)
     } else {
-        show_misfit(out, text, parameters)
+        show_pairing(out, register)
     }
 }

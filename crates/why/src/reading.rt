@@ -5,88 +5,65 @@ use details::places::{name_at, opening};
 use rules::names::name_of;
 use std::io;
 use token::Token;
-use wording::write::{byte_at, say_name, say_number, span, write};
+use wording::write::{byte_at, say_name, span};
 
 // The index of `register` among the reserved words.
 const REGISTER: u8 = 17;
 
 // Outside comments only some characters of ASCII stand. A byte-order mark and the curly quotes, of three bytes each,
 // are told by name.
-fn show_strange(out: &mut impl io::Write, text: &[u8], place: usize) -> io::Result<()> {
-    let three = name_of(text, place, 3);
-    let one = byte_at(three, 0);
-    let two = byte_at(three, 1);
-    let last = byte_at(three, 2);
-    if (one == 239) & (two == 187) & (last == 191) {
-        write(out, b"found a byte-order mark: save the text without one\n")
-    } else if (one == 226) & (two == 128) & (152 <= last) & (last <= 159) {
-        write(
+fn show_strange(out: &mut impl io::Write, bytes: &[u8]) -> io::Result<()> {
+    match bytes {
+        [0xef, 0xbb, 0xbf, ..] => {
+            writeln!(out, "found a byte-order mark: save the text without one")
+        }
+        [0xe2, 0x80, 0x98..=0x9f, ..] => writeln!(
             out,
-            b"found a curly quote: a mask stands between straight ones, '\n",
-        )
-    } else {
-        write(
+            "found a curly quote: a mask stands between straight ones, '"
+        ),
+        _ => writeln!(
             out,
-            b"found a character that is not ASCII: only comments may have one\n",
-        )
+            "found a character that is not ASCII: only comments may have one"
+        ),
     }
 }
 
-fn show_byte(out: &mut impl io::Write, byte: u8, found: &[u8]) -> io::Result<()> {
-    if byte == b'"' {
-        write(
+// A sign of ASCII that begins no token.
+fn show_byte(out: &mut impl io::Write, byte: u8) -> io::Result<()> {
+    match byte {
+        b'"' => writeln!(
             out,
-            b"found a double quote: a mask stands between single ones, '\n",
-        )
-    } else if byte == 13 {
-        write(
+            "found a double quote: a mask stands between single ones, '"
+        ),
+        b'\r' => writeln!(
             out,
-            b"found a carriage return: lines end with a newline alone\n",
-        )
-    } else if (32 < byte) & (byte < 127) {
-        say_name(out, b"found $\n", found)
-    } else {
-        say_number(
+            "found a carriage return: lines end with a newline alone"
+        ),
+        b'!'..=b'~' => say_name(out, b"found $\n", &[byte]),
+        _ => writeln!(
             out,
-            b"found the byte #: blanks are space, tab and newline\n",
-            byte as usize,
-        )
+            "found the byte {byte}: blanks are space, tab and newline"
+        ),
     }
 }
 
 // No token: a comment or a literal that does not end, a number that is too large, or a byte that begins none.
 fn show_bad(out: &mut impl io::Write, text: &[u8], place: usize) -> io::Result<()> {
-    let byte = byte_at(text, place);
-    if byte == b'/' {
-        write(out, b"the comment that begins here is not closed\n")
-    } else if byte == b'\'' {
-        write(
+    match byte_at(text, place) {
+        b'/' => writeln!(out, "the comment that begins here is not closed"),
+        b'\'' => writeln!(
             out,
-            b"a bits literal has one or more of 0 1 * . between two quotes\n",
-        )
-    } else if (b'0' <= byte) & (byte <= b'9') {
-        write(out, b"a number is at most 2,147,483,647\n")
-    } else if 127 < byte {
-        show_strange(out, text, place)
-    } else {
-        show_byte(out, byte, name_of(text, place, 1))
+            "a bits literal has one or more of 0 1 * . between two quotes"
+        ),
+        b'0'..=b'9' => writeln!(out, "a number is at most 2,147,483,647"),
+        byte @ ..=0x7f => show_byte(out, byte),
+        _ => show_strange(out, name_of(text, place, 3)),
     }
 }
 
 // The words that this version reads, by their index.
 fn is_known(word: u8) -> bool {
-    match word {
-        1 => true,
-        2 => true,
-        4 => true,
-        10 => true,
-        11 => true,
-        12 => true,
-        16 => true,
-        17 => true,
-        21 => true,
-        _ => 25 <= word,
-    }
+    matches!(word, 1 | 2 | 4 | 10..=12 | 16 | 17 | 21 | 25..)
 }
 
 // A reserved word: no name, and of Devil's not all are supported.
@@ -112,25 +89,27 @@ fn show_word(
 
 // A sign: some begin what Devil has and this version has not.
 fn show_sign(out: &mut impl io::Write, text: &[u8], place: usize, found: &[u8]) -> io::Result<()> {
-    let sign = byte_at(found, 0);
     say_name(out, b"found $\n", found)?;
-    if (sign == b'{') & could_stand(text, place, b"bool") {
-        write(out, b"types that name their values are not supported yet\n")?;
-    } else if (sign == b'(') & could_stand(text, place, b"=") {
-        write(out, b"registers with parameters are not supported yet\n")?;
-    } else if (1 < found.len()) & ((sign == b'<') | (sign == b'=')) {
-        write(out, b"types that name their values are not supported yet\n")?;
+    match found {
+        [b'{', ..] if could_stand(text, place, b"bool") => {
+            writeln!(out, "types that name their values are not supported yet")
+        }
+        [b'(', ..] if could_stand(text, place, b"=") => {
+            writeln!(out, "registers with parameters are not supported yet")
+        }
+        [b'<' | b'=', _, ..] => {
+            writeln!(out, "types that name their values are not supported yet")
+        }
+        _ => Ok(()),
     }
-    Ok(())
 }
 
 // The token at a place, with the bytes that it takes.
 fn show_token(out: &mut impl io::Write, text: &[u8], place: usize) -> io::Result<()> {
     let found = token_reader::scan_at(text, place);
-    let token = found.token;
     let bytes = name_of(text, place, span(place, found.next));
-    match token {
-        Token::End(_) => write(out, b"found the end of the text\n"),
+    match found.token {
+        Token::End(_) => writeln!(out, "found the end of the text"),
         Token::Name(start, length) => {
             say_name(out, b"found the name $\n", name_of(text, start, length))
         }
@@ -138,7 +117,7 @@ fn show_token(out: &mut impl io::Write, text: &[u8], place: usize) -> io::Result
         Token::Number(_, _) => say_name(out, b"found the number $\n", bytes),
         Token::Bits(_, _) => say_name(out, b"found $\n", bytes),
         Token::Sign(_, _) => show_sign(out, text, place, bytes),
-        Token::Bad(_) => write(out, b"found no token\n"),
+        Token::Bad(_) => writeln!(out, "found no token"),
     }
 }
 
@@ -146,41 +125,37 @@ fn show_token(out: &mut impl io::Write, text: &[u8], place: usize) -> io::Result
 fn show_extra_name(out: &mut impl io::Write, text: &[u8], place: usize) -> io::Result<()> {
     let length = name_at(text, place).len();
     if 64 < length {
-        say_number(out, b"a name has at most 64 bytes, this one #\n", length)
-    } else if opening(text, place) < text.len() {
-        write(out, b"a bit list has at most 8 pieces\n")
+        writeln!(out, "a name has at most 64 bytes, this one {length}")
+    } else if opening(text, place).is_some() {
+        writeln!(out, "a bit list has at most 8 pieces")
     } else {
-        write(out, b"a device has at most 16 parameters\n")
+        writeln!(out, "a device has at most 16 parameters")
     }
 }
 
 fn show_extra_word(out: &mut impl io::Write, word: u8) -> io::Result<()> {
     if word == REGISTER {
-        write(out, b"a device has at most 64 registers\n")
+        writeln!(out, "a device has at most 64 registers")
     } else {
-        write(out, b"a device has at most 128 variables\n")
+        writeln!(out, "a device has at most 128 variables")
     }
 }
 
 fn show_extra_number(out: &mut impl io::Write, text: &[u8], place: usize) -> io::Result<()> {
-    if opening(text, place) < text.len() {
-        write(out, b"a bit list has at most 8 pieces\n")
+    if opening(text, place).is_some() {
+        writeln!(out, "a bit list has at most 8 pieces")
     } else {
-        write(out, b"a parameter has at most 16 ranges\n")
+        writeln!(out, "a parameter has at most 16 ranges")
     }
 }
 
 fn show_size(out: &mut impl io::Write, text: &[u8], place: usize) -> io::Result<()> {
-    let found = token_reader::scan_at(text, place);
-    let token = found.token;
-    match token {
+    match token_reader::scan_at(text, place).token {
         Token::Name(_, _) => show_extra_name(out, text, place),
         Token::Word(_, word) => show_extra_word(out, word),
         Token::Number(_, _) => show_extra_number(out, text, place),
-        Token::Bits(_, _) => Ok(()),
-        Token::Sign(_, _) => write(out, b"parentheses and minuses go at most 16 deep\n"),
-        Token::End(_) => Ok(()),
-        Token::Bad(_) => Ok(()),
+        Token::Sign(_, _) => writeln!(out, "parentheses and minuses go at most 16 deep"),
+        Token::Bits(_, _) | Token::End(_) | Token::Bad(_) => Ok(()),
     }
 }
 
@@ -190,12 +165,12 @@ pub fn show_reading(
     rule: u32,
     place: usize,
 ) -> io::Result<()> {
-    if rule == 3 {
-        show_bad(out, text, place)
-    } else if rule == 4 {
-        show_token(out, text, place)?;
-        show_expected(out, text, place)
-    } else {
-        show_size(out, text, place)
+    match rule {
+        3 => show_bad(out, text, place),
+        4 => {
+            show_token(out, text, place)?;
+            show_expected(out, text, place)
+        }
+        _ => show_size(out, text, place),
     }
 }

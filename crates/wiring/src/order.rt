@@ -12,15 +12,7 @@ fn mentioned(variables: &[u32], part: BitList, r: usize, k: usize) -> bool
     requires k_bound { k ≤ 8 }
     ensures { result ≡ is_mentioned variables.now part r k }
 {
-    let mut left = k;
-    while 0 < left {
-        left -= 1;
-        let piece = piece_at(variables, part, left);
-        if piece.register == r {
-            return true;
-        }
-    }
-    false
+    (0..k).any(|j| piece_at(variables, part, j).register == r)
 }
 
 // How many distinct registers the part has: the number of its accesses.
@@ -28,15 +20,12 @@ pub fn register_count(variables: &[u32], part: BitList) -> usize
     requires { Usable part }
     ensures { result ≡ length (access_order variables.now part) }
 {
-    let mut k: usize = 0;
     let mut seen: usize = 0;
-    let count = part.count;
-    while k < count {
+    for k in 0..part.count {
         let piece = piece_at(variables, part, k);
         if !mentioned(variables, part, piece.register, k) {
             seen += 1;
         }
-        k += 1;
     }
     seen
 }
@@ -46,10 +35,8 @@ pub fn register_at(variables: &[u32], part: BitList, n: usize) -> usize
     requires { Usable part }
     ensures { result ≡ get_or (access_order variables.now part) n 0 }
 {
-    let mut k: usize = 0;
     let mut seen: usize = 0;
-    let count = part.count;
-    while k < count {
+    for k in 0..part.count {
         let piece = piece_at(variables, part, k);
         if !mentioned(variables, part, piece.register, k) {
             if seen == n {
@@ -57,7 +44,6 @@ pub fn register_at(variables: &[u32], part: BitList, n: usize) -> usize
             }
             seen += 1;
         }
-        k += 1;
     }
     0
 }
@@ -67,12 +53,5 @@ pub fn read_before(variables: &[u32], part: BitList, r: usize, step: usize) -> b
     requires { Usable part }
     ensures { result ≡ read_before variables.now part r step }
 {
-    let mut left = step;
-    while 0 < left {
-        left -= 1;
-        if register_at(variables, part, left) == r {
-            return true;
-        }
-    }
-    false
+    (0..step).any(|n| register_at(variables, part, n) == r)
 }

@@ -2,7 +2,7 @@
 ghost use Rattle.std.specs.Prelude.{◌≡◌, ◌<◌, ◌^◌};
 ghost use Rattle.wiring.specs.Pieces.{Usable, PieceAt, size_of, covers, carried_by, source_of};
 
-use crate::{BitList, Carried, Source};
+use crate::BitList;
 use tables::Piece;
 
 pub fn piece_at(variables: &[u32], part: BitList, k: usize) -> Piece
@@ -25,58 +25,44 @@ fn size_of(piece: Piece) -> usize
     requires { piece.high < 2 ^ 32 }
     ensures { result ≡ size_of piece }
 {
-    if piece.low <= piece.high {
-        piece.high + 1 - piece.low
-    } else {
-        0
-    }
+    (piece.high + 1).saturating_sub(piece.low)
 }
 
 fn covers_bit(piece: Piece, r: usize, b: usize) -> bool
     ensures { result ≡ covers piece r b }
 {
-    if piece.register != r {
-        return false;
-    }
-    if b < piece.low {
-        return false;
-    }
-    b <= piece.high
+    (piece.register == r) & ((piece.low <= b) & (b <= piece.high))
 }
 
 // The value's bit that bit `b` of register `r` carries.
-pub fn carried_by(variables: &[u32], part: BitList, r: usize, b: usize) -> Carried
+pub fn carried_by(variables: &[u32], part: BitList, r: usize, b: usize) -> Option<usize>
     requires { Usable part }
     ensures { result ≡ carried_by variables.now part r b }
 {
-    let mut k = part.count;
-    let mut base: usize = 0;
-    while 0 < k {
-        k -= 1;
+    let mut base = 0;
+    for k in (0..part.count).rev() {
         let piece = piece_at(variables, part, k);
         if covers_bit(piece, r, b) {
-            return Carried::Bit(base + (b - piece.low));
+            return Some(base + (b - piece.low));
         }
         base += size_of(piece);
     }
-    Carried::Nowhere
+    None
 }
 
 // The register and its bit that carry bit `p` of the value.
-pub fn source_of(variables: &[u32], part: BitList, p: usize) -> Source
+pub fn source_of(variables: &[u32], part: BitList, p: usize) -> Option<(usize, usize)>
     requires { Usable part }
     ensures { result ≡ source_of variables.now part p }
 {
-    let mut k = part.count;
     let mut left = p;
-    while 0 < k {
-        k -= 1;
+    for k in (0..part.count).rev() {
         let piece = piece_at(variables, part, k);
         let size = size_of(piece);
         if left < size {
-            return Source::From(piece.register, piece.low + left);
+            return Some((piece.register, piece.low + left));
         }
         left -= size;
     }
-    Source::NoSource
+    None
 }

@@ -1,41 +1,32 @@
 // Parameters, registers and their places, by name.
-use crate::write::{blanks, number, say, say_number, span, write};
+use crate::write::quoted;
+pub use details::entries::Entry;
 use details::entries::{
-    count_of, parameter_name, range_count, range_high, range_low, register_name, register_width,
-    register_word,
+    count_of, range_count, range_high, range_low, register_width, register_word,
 };
 use rules::words::narrow;
 use std::io;
 use tables::Part;
 
-// The three tables of entries.
-#[derive(Clone, Copy)]
-pub enum Entry {
-    Parameter,
-    Register,
-    Variable,
-}
-
 // The entry that was written last.
 pub fn last(table: &[u32]) -> u32 {
-    let n = count_of(table);
-    if 0 < n { n - 1 } else { 0 }
+    count_of(table).saturating_sub(1)
 }
 
 // 3..0, or 3 alone
 fn show_ends(out: &mut impl io::Write, first: usize, last: usize) -> io::Result<()> {
-    number(out, first)?;
+    write!(out, "{first}")?;
     if first != last {
-        say_number(out, b"..#", last)?;
+        write!(out, "..{last}")?;
     }
     Ok(())
 }
 
 // [3..0]
 pub fn show_bracket(out: &mut impl io::Write, first: usize, last: usize) -> io::Result<()> {
-    write(out, b"[")?;
+    write!(out, "[")?;
     show_ends(out, first, last)?;
-    write(out, b"]")
+    write!(out, "]")
 }
 
 // 0..3
@@ -47,45 +38,35 @@ pub fn show_range(out: &mut impl io::Write, parameters: &[u32], i: u32, k: u32) 
     )
 }
 
-// Five ranges to a line.
-fn show_comma(out: &mut impl io::Write, k: u32) -> io::Result<()> {
-    if 0 < k {
-        if k % 5 == 0 {
-            write(out, b",\n")?;
-            blanks(out, 22)?;
-        } else {
-            write(out, b", ")?;
-        }
+// What parts range k from the one before it: there are five ranges to a line.
+fn separator(k: u32) -> &'static str {
+    if k == 0 {
+        ""
+    } else if k % 5 == 0 {
+        ",\n                      "
+    } else {
+        ", "
     }
-    Ok(())
-}
-
-// 0..3, 8
-fn show_ranges(out: &mut impl io::Write, parameters: &[u32], i: u32) -> io::Result<()> {
-    let n = range_count(parameters, i);
-    let mut k: u32 = 0;
-    while k < n {
-        show_comma(out, k)?;
-        show_range(out, parameters, i, k)?;
-        k += 1;
-    }
-    Ok(())
 }
 
 // offsets 0..3, 8; or offset 0, where there is but one
 pub fn show_offsets(out: &mut impl io::Write, parameters: &[u32], i: u32) -> io::Result<()> {
-    let alone = range_low(parameters, i, 0) == range_high(parameters, i, 0);
-    if alone & (range_count(parameters, i) == 1) {
-        write(out, b"offset ")?;
+    let n = range_count(parameters, i);
+    if (n == 1) & (range_low(parameters, i, 0) == range_high(parameters, i, 0)) {
+        write!(out, "offset ")?;
     } else {
-        write(out, b"offsets ")?;
+        write!(out, "offsets ")?;
     }
-    show_ranges(out, parameters, i)
+    for k in 0..n {
+        write!(out, "{}", separator(k))?;
+        show_range(out, parameters, i, k)?;
+    }
+    Ok(())
 }
 
 // The highest bit that a register has.
 pub fn top_bit(registers: &[u32], i: u32) -> usize {
-    span(1, register_width(registers, i))
+    register_width(registers, i).saturating_sub(1)
 }
 
 // The parameter of a register's part.
@@ -102,11 +83,9 @@ pub fn show_place(
     i: u32,
     part: Part,
 ) -> io::Result<()> {
-    write(
-        out,
-        parameter_name(text, parameters, port_of(registers, i, part)),
-    )?;
-    say_number(out, b" @ #", register_word(registers, i, part, 2))
+    let port = port_of(registers, i, part);
+    out.write_all(Entry::Parameter.name(text, parameters, port))?;
+    write!(out, " @ {}", register_word(registers, i, part, 2))
 }
 
 // bit 3 of `status`, by the bit's number
@@ -116,6 +95,6 @@ pub fn show_bit(
     registers: &[u32],
     bit: usize,
 ) -> io::Result<()> {
-    let name = register_name(text, registers, narrow(bit / 64));
-    say(out, b"bit # of $", bit % 64, name, b"")
+    write!(out, "bit {} of ", bit % 64)?;
+    quoted(out, Entry::Register.name(text, registers, narrow(bit / 64)))
 }

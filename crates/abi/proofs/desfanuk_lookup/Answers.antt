@@ -5,14 +5,14 @@ use mathlib.Core.List.{List}
 use lib.ListN.{get_or}
 use mir.Syntax.{w32}
 use mir.Val.{Fits}
-use Rattle.rules.specs.declared.names.Found.{Found}
+use Rattle.std.proofs.Common.{Option}
 use Rattle.rules.specs.Names.{variable_named}
 use Rattle.abi.specs.Loading.{Narrow, found_word}
 use Rattle.abi.proofs.LoadingLaws.{found-narrow, found-said}
 use Rattle.abi.proofs.desfanuk_lookup.Goals as goal
 
 -- an index found in a table of 32-bit words fits a word
-narrow : (text variables name : List ℕ) → ((i : ℕ) → Fits w32 (get_or variables i 0)) → {found : Found} → found ≡ variable_named text variables name → Narrow found
+narrow : (text variables name : List ℕ) → ((i : ℕ) → Fits w32 (get_or variables i 0)) → {found : Option ℕ} → found ≡ variable_named text variables name → Narrow found
 narrow text variables name words e = subst Narrow (sym e) (found-narrow text variables name (words 0))
 
 pub found_word-requires : goal.found_word-requires

@@ -1,14 +1,18 @@
 use mathlib.Core.Path.{sym, ap, ◌∙◌}
 use mir.Facts.{to_z-of_z}
-use Rattle.units.specs.declared.Answer.{Answer as Converted}
+use Rattle.std.proofs.Common.{Result, Float}
+use Rattle.units.specs.declared.unconverted.Unconverted.{Unconverted}
+use Rattle.calibrated.specs.declared.InUnits.TheVariants.{Stopped}
 use Rattle.calibrated.specs.Readings.{read_as}
 use Rattle.calibrated.proofs.ReadingLaws.{done-as}
 use Rattle.calibrated.proofs.done_in.Goals as goal
 
-pub returns-in-Value : goal.returns-in-Value
+pub returns-in-Ok : goal.returns-in-Ok
 unfolding read_as
-returns-in-Value c = sym (ap (λ (a : Converted). read_as a c.args.accesses) c.in-Value.is) ∙ done-as _ _ c.args.accesses c.args.calibration _ c.convert-result.ensures (to_z-of_z c.ranges.value)
+returns-in-Ok c = sym (ap (λ (a : Result Float Unconverted). read_as a c.args.accesses) c.in-Ok.is) ∙ done-as _ _ c.args.accesses c.args.calibration _ c.convert.ensures (to_z-of_z c.ranges.value)
 
-pub returns-in-Refused : goal.returns-in-Refused
+pub returns-in-Err : goal.returns-in-Err
 unfolding read_as
-returns-in-Refused c = sym (ap (λ (a : Converted). read_as a c.args.accesses) c.in-Refused.is) ∙ done-as _ _ c.args.accesses c.args.calibration _ c.convert-result.ensures (to_z-of_z c.ranges.value)
+returns-in-Err c =
+    ap Stopped c.number.ensures ∙ sym (ap (λ (a : Result Float Unconverted). read_as a c.args.accesses) c.in-Err.is)
+    ∙ done-as _ _ c.args.accesses c.args.calibration _ c.convert.ensures (to_z-of_z c.ranges.value)

@@ -1,13 +1,7 @@
 -- `cases::tell_all` ends: a frame that is found begins inside the input and ends behind its beginning.
-use native.Mathlib.Omega.{arith}
-use borrow.Author.Rules.{rules}
-use Prim.Native.Nat.{◌≤◌, ◌-◌}
+use Prim.Native.Nat.{◌-◌}
 use lib.ListN.{length}
-use Rattle.frames.proofs.FrameLaws.{text-within, text-nearer}
 use Rattle.cases.proofs.tell_all.Given as goal
 
-abbrev pub invariant-loop-start : goal.invariant-loop-start
-invariant-loop-start g l = l.at ≤ l.at
-
-abbrev pub decreases-loop-start : goal.decreases-loop-start
-decreases-loop-start g l = length l.input - l.at
+abbrev pub decreases-loop-frame : goal.decreases-loop-frame
+decreases-loop-frame g l = length l.input - l.at

@@ -1,7 +1,6 @@
 -- `explain::explain` meets its contract.
 use mathlib.Core.Path.{refl}
 use Rattle.loader.specs.Load.{lent_as, tables_of, beginning}
-use borrow.Author.Rules.{rules}
 use Rattle.explain.proofs.explain.Goals as goal
 
 pub judge_all-judging-requires : goal.judge_all-judging-requires

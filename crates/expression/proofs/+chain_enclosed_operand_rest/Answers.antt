@@ -1,133 +1,131 @@
 -- The goals of the cycle {chain, enclosed, operand, rest}, by the laws of proofs/Laws.antt. Assumes nothing.
-use Rattle.std.proofs.Common.{◌≡◌, ℕ, ◌-◌, List, sym, ap, ◌∙◌, arith, inl, inr, pos}
-use mir.Syntax.{w64}
-use mir.Val.{SFits}
-use mir.Facts.{to_z-of_z}
-use Rattle.token.specs.Kind.{sign_of}
-use Rattle.token.specs.Fair.{place_of}
+use Rattle.std.proofs.Common.{◌≡◌, ◌∙◌, sym, ap, refl, ℕ, ◌-◌, List, Option, Ok, inl, inr, arith}
+use Rattle.expression.specs.Expression.{Outcome, Nothing, opening_of, joint_of, negated_read, closed_read, chain_at, rest_at}
+use Rattle.expression.specs.Value.{Worth}
+use Rattle.expression.specs.declared.Operator.{Operator}
 use Rattle.token.specs.declared.Scanned.{Scanned}
-use Rattle.expression.specs.declared.Worth.{Worth}
-use Rattle.expression.specs.declared.Joint.{Joint}
-use Rattle.expression.specs.declared.Opening.{Opening}
-use Rattle.expression.specs.declared.Outcome.{Outcome}
-use Rattle.expression.specs.declared.Outcome.TheVariants.{Read, Refused}
-use Rattle.expression.specs.Value.{within_range}
-use Rattle.expression.specs.Expression.{negated_read, closed_read, unexpected_as, on_read, joint_of, opening_of, operand_at, chain_at, rest_at}
-use Rattle.expression.proofs.Laws.{operand-literal, operand-nothing, operand-deep, operand-minus, operand-paren, chain-operand, chain-rest, rest_end, rest-refusal, rest_more, rest-ahead, sum-read, enclosed-refused, enclosed-alone}
+use Rattle.token.specs.Kind.{sign_of}
+use Rattle.expression.proofs.Tokens.{closes, opens-minus, opens-paren, opens-other, opens-nothing}
+use Rattle.expression.proofs.Laws.{goes_along, stays, handed, closed-stays, chain-operand, chain-rest, rest_end, rest-refusal, rest_more, rest-ahead, sum-read, enclosed-refused, enclosed-alone}
+use Rattle.expression.proofs.Range.{within-read}
+use Rattle.expression.proofs.Enclosing.{literal-read, nothing-read, deep-read, minus-read, paren-read}
 use Rattle.expression.proofs.+chain_enclosed_operand_rest.Goals as goal
-
--- equals for equals, where the place stands in the middle of a call
-read_as_lem : {w v : Worth} {m n : ℕ} → w ≡ v → m ≡ n → Read w m ≡ Read v n
-read_as_lem p q = cc
-
-rest-as : (text : List ℕ) (depth level end : ℕ) {joined worth : Worth} → joined ≡ worth → rest_at text depth level worth end ≡ rest_at text depth level joined end
-rest-as text depth level end p = rw p
-
-enclosed-as : (text : List ℕ) (depth : ℕ) {m n : ℕ} → m ≡ n → closed_read text (chain_at text depth 2 m) ≡ closed_read text (chain_at text depth 2 n)
-enclosed-as text depth p = rw p
-
--- what goes on after what was read
-on_read_lem : (more : Worth → ℕ → Outcome) {o : Outcome} {worth : Worth} {next : ℕ} → o ≡ Read worth next → on_read o more ≡ more worth next
-on_read_lem more e = rw e
-
--- what two calls saw of the token that was found at a place
-next-of : {found seen : Scanned} → found ≡ seen → found.next ≡ seen.next
-next-of e = ap (λ (s : Scanned). s.next) e
-
-opening-of : {found seen : Scanned} {start is : Opening} → found ≡ seen → start ≡ opening_of found.token → start ≡ is → opening_of seen.token ≡ is
-opening-of e b i = sym (b ∙ ap (λ (s : Scanned). opening_of s.token) e) ∙ i
-
-joint-of : (level : ℕ) {found seen : Scanned} {sign : ℕ} {joint is : Joint} → found ≡ seen → sign ≡ sign_of found.token → joint ≡ joint_of level sign → joint ≡ is → joint_of level (sign_of seen.token) ≡ is
-joint-of level e g j i = sym (j ∙ ap (joint_of level) (g ∙ ap (λ (s : Scanned). sign_of s.token) e)) ∙ i
+use Rattle.expression.proofs.+chain_enclosed_operand_rest.Goals.{operand-in_default-sign-via-in-Some+in_default, operand-in_default-sign-via-in_default}
 
 -- ---- chain
 
 pub chain-returns-then-level-eq0 : goal.chain-returns-then-level-eq0
 chain-returns-then-level-eq0 t c = c.operand.ensures ∙ chain-operand _ _ _ _ c.if-level-eq0.true
 
+pub chain-returns-in_err-first : goal.chain-returns-in_err-first
+chain-returns-in_err-first t c = chain-rest _ _ _ _ c.if-level-eq0.false c.chain.ensures (stays _ c.in_err-first.was (handed _ c.from_residual.ensures))
+
 pub chain-returns : goal.chain-returns
-chain-returns t c = chain-rest _ _ _ _ c.if-level-eq0.false c.chain-first.ensures c.rest.ensures
+chain-returns t c = chain-rest _ _ _ _ c.if-level-eq0.false c.chain.ensures (goes_along _ c.in_ok-first.was c.rest.ensures)
 
 -- ---- enclosed
 
-pub enclosed-returns-in_default : goal.enclosed-returns-in_default
-enclosed-returns-in_default t c = enclosed-refused _ _ _ c.operand-first.ensures c.in_default.is
+pub enclosed-returns-in_err-first : goal.enclosed-returns-in_err-first
+enclosed-returns-in_err-first t c = handed _ c.from_residual.ensures ∙ sym c.in_err-first.was ∙ enclosed-refused _ _ _ c.operand.ensures c.in_err-first.was
 
-pub enclosed-returns-then-sign_of-eq41 : goal.enclosed-returns-then-sign_of-eq41
-enclosed-returns-then-sign_of-eq41 t c =
-    enclosed-alone _ _ _ c.operand-first.ensures c.in-Read.is c.scan_at-found.ensures c.sign_of.ensures c.if-sign_of-eq41.true
+pub enclosed-returns-then-eq : goal.enclosed-returns-then-eq
+enclosed-returns-then-eq t c =
+    enclosed-alone _ _ _ c.operand.ensures c.in_ok-first.was c.scan_at-found.ensures (closes _ c.sign.ensures c.if-eq.ensures)
+
+pub enclosed-returns-in_err-product : goal.enclosed-returns-in_err-product
+enclosed-returns-in_err-product t c =
+    handed _ c.from_residual-in_err-product.ensures
+    ∙ closed-stays _ (sum-read _ _ _ c.operand.ensures (goes_along _ c.in_ok-first.was c.rest.ensures) (stays _ c.in_err-product.was refl))
+
+pub enclosed-returns-in_err-sum : goal.enclosed-returns-in_err-sum
+enclosed-returns-in_err-sum t c =
+    handed _ c.from_residual-in_err-sum.ensures
+    ∙ closed-stays _
+    (sum-read _ _ _ c.operand.ensures (goes_along _ c.in_ok-first.was c.rest.ensures)
+    (goes_along _ c.in_ok-product.was (sym c.in_err-sum.was ∙ c.rest-2.ensures)))
 
 pub enclosed-returns : goal.enclosed-returns
 enclosed-returns t c =
     c.closed.ensures
-    ∙ ap (closed_read _) (sum-read _ _ _ (sym c.in-Read.is ∙ c.operand-first.ensures) c.rest-product.ensures c.rest-sum.ensures)
+    ∙ ap (closed_read _)
+    (sum-read _ _ _ c.operand.ensures (goes_along _ c.in_ok-first.was c.rest.ensures)
+    (goes_along _ c.in_ok-product.was (sym c.in_ok-sum.was ∙ c.rest-2.ensures)))
 
 -- ---- operand
 
-pub operand-returns-then-depth-eq0 : goal.operand-returns-then-depth-eq0
-operand-returns-then-depth-eq0 t c =
-    ap (Refused 5) (c.place_of.ensures ∙ ap (λ (s : Scanned). place_of s.token) c.scan_at-found.ensures)
-    ∙ sym (operand-deep _ _ _ c.if-depth-eq0.true (inl (opening-of c.scan_at-found.ensures c.begun-start.ensures c.in-Minus.is)))
+pub operand-returns-in-Number : goal.operand-returns-in-Number
+operand-returns-in-Number t c =
+    ap (λ (w : Worth). Ok (w, c.scan_at-found.result.next)) (c.ok.ensures.value ∙ within-read _ _ c.try_from.ensures)
+    ∙ literal-read _ _ _ c.scan_at-found.ensures (ap opening_of c.in-Number.is)
 
-pub operand-returns-then-depth-eq0-2 : goal.operand-returns-then-depth-eq0-2
-operand-returns-then-depth-eq0-2 t c =
-    ap (Refused 5) (c.place_of-then-depth-eq0-2.ensures ∙ ap (λ (s : Scanned). place_of s.token) c.scan_at-found.ensures)
-    ∙ sym (operand-deep _ _ _ c.if-depth-eq0-2.true (inr (opening-of c.scan_at-found.ensures c.begun-start.ensures c.in-Paren.is)))
+pub operand-returns-in_err-deeper-in-Some-eq45 : goal.operand-returns-in_err-deeper-in-Some-eq45
+operand-returns-in_err-deeper-in-Some-eq45 t c =
+    let deep = c.in_err-deeper-in-Some-eq45.ensures in
+    handed _ c.from_residual.ensures
+    ∙ deep-read _ _ _ c.scan_at-found.ensures c.checked_sub.ensures (inl (opens-minus _ c.in-Some-eq45.ensures c.in-Some-eq45.field-0-test)) deep.ok_part c.place.ensures deep.value
 
-pub operand-returns-in-Literal : goal.operand-returns-in-Literal
-operand-returns-in-Literal t c =
-    let fits : SFits w64 (pos c.in-Literal.value) = record { sfits = omega arith } in
-    read_as_lem (c.within.ensures ∙ ap within_range (to_z-of_z fits)) (next-of c.scan_at-found.ensures)
-    ∙ sym (operand-literal _ _ _ (opening-of c.scan_at-found.ensures c.begun-start.ensures c.in-Literal.is))
+pub operand-returns-in_err-deeper-in-Some-eq40 : goal.operand-returns-in_err-deeper-in-Some-eq40
+operand-returns-in_err-deeper-in-Some-eq40 t c =
+    let deep = c.in_err-deeper-in-Some-eq40.ensures in
+    handed _ c.from_residual-in_err-deeper-in-Some-eq40.ensures
+    ∙ deep-read _ _ _ c.scan_at-found.ensures c.checked_sub.ensures (inr (opens-paren _ c.in-Some-eq40.ensures c.in-Some-eq40.field-0-test)) deep.ok_part c.place.ensures deep.value
 
-pub operand-returns-else-depth-eq0 : goal.operand-returns-else-depth-eq0
-operand-returns-else-depth-eq0 t c =
-    c.negated.ensures
-    ∙ ap negated_read (c.operand.ensures ∙ ap (operand_at _ _) (next-of c.scan_at-found.ensures))
-    ∙ sym (operand-minus _ _ _ c.if-depth-eq0.false (opening-of c.scan_at-found.ensures c.begun-start.ensures c.in-Minus.is))
+pub operand-returns-in_err-worth-in-Some-eq45 : goal.operand-returns-in_err-worth-in-Some-eq45
+operand-returns-in_err-worth-in-Some-eq45 t c =
+    handed _ c.from_residual-in_err-worth-in-Some-eq45.ensures
+    ∙ ap negated_read (sym c.in_err-worth-in-Some-eq45.was)
+    ∙ minus-read _ _ _ c.scan_at-found.ensures c.checked_sub.ensures c.in_ok-deeper-in-Some-eq45.ensures.ok_part (opens-minus _ c.in-Some-eq45.ensures c.in-Some-eq45.field-0-test) c.operand.ensures
 
-pub operand-returns-else-depth-eq0-2 : goal.operand-returns-else-depth-eq0-2
-operand-returns-else-depth-eq0-2 t c =
-    c.enclosed.ensures
-    ∙ enclosed-as _ _ (next-of c.scan_at-found.ensures)
-    ∙ sym (operand-paren _ _ _ c.if-depth-eq0-2.false (opening-of c.scan_at-found.ensures c.begun-start.ensures c.in-Paren.is))
+pub operand-returns-in_ok-worth-in-Some-eq45 : goal.operand-returns-in_ok-worth-in-Some-eq45
+operand-returns-in_ok-worth-in-Some-eq45 t c =
+    ap (λ (w : Worth). Ok (w, c.in_ok-worth-in-Some-eq45.end)) c.applied.ensures
+    ∙ ap negated_read (sym c.in_ok-worth-in-Some-eq45.was)
+    ∙ minus-read _ _ _ c.scan_at-found.ensures c.checked_sub.ensures c.in_ok-deeper-in-Some-eq45.ensures.ok_part (opens-minus _ c.in-Some-eq45.ensures c.in-Some-eq45.field-0-test) c.operand.ensures
 
-pub operand-returns-in-Nothing : goal.operand-returns-in-Nothing
-operand-returns-in-Nothing t c =
-    c.unexpected.ensures
-    ∙ ap (λ (s : Scanned). unexpected_as s.token) c.scan_at-found.ensures
-    ∙ sym (operand-nothing _ _ _ (opening-of c.scan_at-found.ensures c.begun-start.ensures c.in-Nothing.is))
+pub operand-returns-in_ok-deeper-in-Some-eq40 : goal.operand-returns-in_ok-deeper-in-Some-eq40
+operand-returns-in_ok-deeper-in-Some-eq40 t c =
+    paren-read _ _ _ c.scan_at-found.ensures c.checked_sub.ensures c.in_ok-deeper-in-Some-eq40.ensures.ok_part (opens-paren _ c.in-Some-eq40.ensures c.in-Some-eq40.field-0-test) c.enclosed.ensures
+
+pub operand-returns-in_default-sign : goal.operand-returns-in_default-sign
+operand-returns-in_default-sign t c =
+    let opens : opening_of c.scan_at-found.result.token ≡ Nothing =
+    elim c.in_default-sign.branch [
+      | operand-in_default-sign-via-in-Some+in_default w ↦ opens-other _ w.in_default-sign.ensures w.in_default-sign.field-0-test.0.1 w.in_default-sign.field-0-test.1
+      | operand-in_default-sign-via-in_default w ↦ opens-nothing _ c.in_default.not-Number (sym c.sign.ensures ∙ w.in_default-sign.is)
+    ] in
+    nothing-read _ _ _ c.scan_at-found.ensures opens c.refusal.ensures
 
 -- ---- rest
 
--- what is left to read of a first part, so far
-pub so_far : (more : Worth → ℕ → Outcome) {first now : Outcome} {worth : Worth} {next : ℕ} → first ≡ Read worth next → more worth next ≡ now → on_read first more ≡ now
-so_far more e i = on_read_lem more e ∙ i
+-- what a turn finds of the operator, and of the part after it
+module _ (text : List ℕ) (depth level : ℕ) {found seen : Scanned} (e : found ≡ seen) where
+  joint-is : {joint is : Option Operator} → joint ≡ joint_of level (sign_of found.token) → joint ≡ is → joint_of level (sign_of seen.token) ≡ is
+  joint-is j i = sym (j ∙ ap (λ (s : Scanned). joint_of level (sign_of s.token)) e) ∙ i
 
-pub rest-returns-in_default-joint : goal.rest-returns-in_default-joint
-rest-returns-in_default-joint t c =
-    sym
-    (so_far (rest_at c.args.text.now c.args.depth c.args.level) c.in-Read.is c.loop-operator.invariant
-    ∙ rest_end _ _ _ _ _ (joint-of _ c.scan_at-found.ensures c.sign_of-sign.ensures c.joint_of-joint.ensures c.in_default-joint.is))
+  part-is : {part is : Outcome} → part ≡ chain_at text depth (level - 1) found.next → part ≡ is → chain_at text depth (level - 1) seen.next ≡ is
+  part-is p i = sym (p ∙ ap (λ (s : Scanned). chain_at text depth (level - 1) s.next) e) ∙ i
 
-pub rest-returns-in_default-more : goal.rest-returns-in_default-more
-rest-returns-in_default-more t c =
-    let joins = joint-of c.args.level c.scan_at-found.ensures c.sign_of-sign.ensures c.joint_of-joint.ensures c.in-By.is in
-    let part = sym (c.chain-more.ensures ∙ ap (chain_at c.args.text.now c.args.depth (c.args.level - 1)) (next-of c.scan_at-found.ensures)) ∙ c.in_default-more.is in
-    c.in_default-more.is
-    ∙ sym (so_far (rest_at c.args.text.now c.args.depth c.args.level) c.in-Read.is c.loop-operator.invariant ∙ rest-refusal _ _ _ _ _ joins part)
+pub rest-returns-in_default : goal.rest-returns-in_default
+rest-returns-in_default t c =
+    sym (c.loop-operator.invariant ∙ rest_end _ _ _ _ _ (joint-is c.args.text.now c.args.depth _ c.scan_at-found.ensures c.joint_of.ensures c.in_default.is))
+
+pub rest-returns-in_err-right : goal.rest-returns-in_err-right
+rest-returns-in_err-right t c =
+    let joins = joint-is c.args.text.now c.args.depth c.args.level c.scan_at-found.ensures c.joint_of.ensures c.in-Some.is in
+    let part = part-is c.args.text.now c.args.depth c.args.level c.scan_at-found.ensures c.chain.ensures c.in_err-right.was in
+    handed _ c.from_residual.ensures ∙ sym (c.loop-operator.invariant ∙ rest-refusal _ _ _ _ _ joins part)
 
 pub rest-loop-operator-smaller : goal.rest-loop-operator-smaller
 rest-loop-operator-smaller t c =
-    let joins = joint-of c.args.level c.scan_at-found.ensures c.sign_of-sign.ensures c.joint_of-joint.ensures c.in-By.is in
-    let part = sym (c.chain-more.ensures ∙ ap (chain_at c.args.text.now c.args.depth (c.args.level - 1)) (next-of c.scan_at-found.ensures)) ∙ c.in-Read-more.is in
+    let joins = joint-is c.args.text.now c.args.depth c.args.level c.scan_at-found.ensures c.joint_of.ensures c.in-Some.is in
+    let part = part-is c.args.text.now c.args.depth c.args.level c.scan_at-found.ensures c.chain.ensures c.in_ok-right.was in
     let ahead = rest-ahead c.args.text.now c.args.depth c.args.level c.loop-operator.worth c.loop-operator.place joins part in
     omega (arith, ahead.0, ahead.1)
 
 pub rest-loop-operator-preserved : goal.rest-loop-operator-preserved
 rest-loop-operator-preserved t c =
-    let joins = joint-of c.args.level c.scan_at-found.ensures c.sign_of-sign.ensures c.joint_of-joint.ensures c.in-By.is in
-    let part = sym (c.chain-more.ensures ∙ ap (chain_at c.args.text.now c.args.depth (c.args.level - 1)) (next-of c.scan_at-found.ensures)) ∙ c.in-Read-more.is in
+    let joins = joint-is c.args.text.now c.args.depth c.args.level c.scan_at-found.ensures c.joint_of.ensures c.in-Some.is in
+    let part = part-is c.args.text.now c.args.depth c.args.level c.scan_at-found.ensures c.chain.ensures c.in_ok-right.was in
     c.loop-operator.invariant
     ∙ rest_more _ _ _ _ _ joins part
-    ∙ rest-as _ _ _ _ c.applied-worth.ensures
+    ∙ ap (λ (w : Worth). rest_at c.args.text.now c.args.depth c.args.level w c.in_ok-right.end) (sym c.applied-worth.ensures)

@@ -1,17 +1,12 @@
--- `expression::closed` meets its contract. Assumes nothing.
-use mathlib.Core.Path.{◌∙◌}
-use borrow.Author.Tests.{ne_eqb}
+use Rattle.std.proofs.Common.{refl}
 use Rattle.expression.specs.Expression.{closed_read}
+use Rattle.expression.proofs.Tokens.{is_sign}
 use Rattle.expression.proofs.closed.Goals as goal
 
-pub returns-in_default : goal.returns-in_default
+pub returns-then-eq : goal.returns-then-eq
 unfolding closed_read
-returns-in_default c = rw (closed_read, c.in_default.is)
-
-pub returns-then-sign_of-eq41 : goal.returns-then-sign_of-eq41
-unfolding closed_read
-returns-then-sign_of-eq41 c = rw (closed_read, c.in-Read.is, ← c.scan_at-found.ensures, ← c.sign_of.ensures, c.if-sign_of-eq41.true)
+returns-then-eq c = rw (closed_read, ← c.scan_at-found.ensures, ← is_sign c.scan_at-found.result.token 41 refl, ← c.sign.ensures, ← c.if-eq.ensures)
 
 pub returns : goal.returns
 unfolding closed_read
-returns c = c.unexpected.ensures ∙ rw (closed_read, c.in-Read.is, ← c.scan_at-found.ensures, ← c.sign_of.ensures, ne_eqb _ _ c.if-sign_of-eq41.false)
+returns c = rw (closed_read, ← c.scan_at-found.ensures, ← is_sign c.scan_at-found.result.token 41 refl, ← c.sign.ensures, ← c.if-eq.ensures, c.refusal.ensures)

@@ -2,6 +2,6 @@
 use Rattle.frames.specs.Frames.{frame_at}
 use Rattle.frames.proofs.frame_at.Goals as goal
 
-pub returns : goal.returns
+pub returns-clause-found : goal.returns-clause-found
 unfolding frame_at
-returns c = c.headed_at.ensures
+returns-clause-found c = c.headed_at.ensures.found

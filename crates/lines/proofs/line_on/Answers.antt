@@ -4,4 +4,4 @@ use borrow.Author.Rules.{rules}
 use Rattle.lines.proofs.line_on.Goals as goal
 
 pub returns : goal.returns
-returns c = line-whole _ _ _ (search rules) c.verdict_on-verdict.ensures c.verdict_line.ensures
+returns c = line-whole _ _ _ (search rules) c.verdict_on.ensures c.verdict_line.ensures

@@ -4,8 +4,8 @@ use Rattle.lines.proofs.LineLaws.{put_as}
 use Rattle.lines.specs.Lines.{line_of}
 use Rattle.lines.proofs.verdict_line.Goals as goal
 
-pub returns-in-Accepted : goal.returns-in-Accepted
-returns-in-Accepted c = put_as (ap line_of (sym c.in-Accepted.is)) c.accepted_line.ensures
+pub returns-in-Ok : goal.returns-in-Ok
+returns-in-Ok c = put_as (ap line_of (sym c.in-Ok.is)) c.accepted_line.ensures
 
-pub returns-in-Refused : goal.returns-in-Refused
-returns-in-Refused c = put_as (ap line_of (sym c.in-Refused.is)) c.refused_line.ensures
+pub returns-in-Err : goal.returns-in-Err
+returns-in-Err c = put_as (ap line_of (sym c.in-Err.is)) c.refused_line.ensures

@@ -1,24 +1,25 @@
-use Prim.Native.Nat.{◌+◌, ◌≤◌}
+use Prim.Native.Nat.{◌+◌}
 use mathlib.Core.Path.{sym, ◌∙◌}
 use native.Mathlib.Omega.{arith}
+use borrow.Author.Tests.{lt-ltb}
 use lib.ListN.{length}
 use Rattle.pieces.specs.Pieces.{took_as, held_as, passes, piece_of}
-use Rattle.pieces.proofs.PieceLaws.{room_for, within, took-is}
+use Rattle.pieces.proofs.PieceLaws.{laid-is, took-is, stored-long}
 use Rattle.pieces.proofs.take_piece.Goals as goal
 
 pub returns-then-is_short : goal.returns-then-is_short
 unfolding took_as piece_of held_as
 returns-then-is_short c = rw (sym c.is_short.ensures ∙ c.if-is_short.true)
 
-pub returns-then-passes : goal.returns-then-passes
+pub returns-then-saturating_add-gt8192 : goal.returns-then-saturating_add-gt8192
 unfolding took_as piece_of held_as passes
-returns-then-passes c = rw (sym c.is_short.ensures ∙ c.if-is_short.false, sym c.passes.ensures ∙ c.if-passes.true)
+returns-then-saturating_add-gt8192 c =
+    rw (sym c.is_short.ensures ∙ c.if-is_short.false, lt-ltb 8192 (c.args.taken + length c.args.piece.now) (omega arith))
 
-pub lay-requires : goal.lay-requires
-lay-requires c = room_for _ c.args.taken _ (length c.args.piece.now) c.is_short.ensures c.if-is_short.false c.passes.ensures c.if-passes.false
-
-pub overflow_add-result : goal.overflow_add-result
-overflow_add-result c = let few : c.args.taken + length c.args.piece.now ≤ 8192 = within c.args.taken (length c.args.piece.now) c.passes.ensures c.if-passes.false in omega arith
+pub slice_bounds-copy_from_slice-end : goal.slice_bounds-copy_from_slice-end
+slice_bounds-copy_from_slice-end c = stored-long _ (c.args.taken + length c.args.piece.now) _ c.is_short.ensures c.if-is_short.false (omega arith)
 
 pub returns : goal.returns
-returns c = took-is _ c.args.store.now c.args.piece.now c.args.taken c.is_short.ensures c.if-is_short.false c.passes.ensures c.if-passes.false c.lay.ensures
+returns c =
+    took-is _ c.args.store.now c.args.piece.now c.args.taken c.is_short.ensures c.if-is_short.false (omega arith)
+    (laid-is c.args.store.now c.args.piece.now c.args.taken c.copy_from_slice.ensures.after)

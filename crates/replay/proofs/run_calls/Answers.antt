@@ -1,27 +1,13 @@
 -- `replay::run_calls` ends.
 use native.Mathlib.Omega.{arith}
-use borrow.Author.Rules.{rules}
-use mathlib.Core.Path.{refl}
 use Rattle.script.proofs.WordLaws.{line-within}
 use Rattle.replay.proofs.run_calls.Goals as goal
 
-pub loop-at-init : goal.loop-at-init
-loop-at-init g c = (omega arith, refl, refl)
-
-pub shape_of-kept-then-is_text : goal.shape_of-kept-then-is_text
-shape_of-kept-then-is_text g c = c.loop-at.invariant.1
-
-pub shape_of-marks-then-is_text : goal.shape_of-marks-then-is_text
-shape_of-marks-then-is_text g c = c.loop-at.invariant.2
-
-pub returns-then-is_text : goal.returns-then-is_text
-returns-then-is_text g c = c.loop-at.invariant.0
+pub slice_bounds-hear-start : goal.slice_bounds-hear-start
+slice_bounds-hear-start g c = (line-within _ _ _ c.line_end-end.ensures c.loop-at-test.true).0
 
 pub slice_bounds-hear-count : goal.slice_bounds-hear-count
 slice_bounds-hear-count g c = (line-within _ _ _ c.line_end-end.ensures c.loop-at-test.true).0
-
-pub slice_bounds-hear-start : goal.slice_bounds-hear-start
-slice_bounds-hear-start g c = (line-within _ _ _ c.line_end-end.ensures c.loop-at-test.true).0
 
 pub slice_bounds-hear-end : goal.slice_bounds-hear-end
 slice_bounds-hear-end g c = (line-within _ _ _ c.line_end-end.ensures c.loop-at-test.true).1
@@ -33,13 +19,4 @@ pub loop-at-smaller : goal.loop-at-smaller
 loop-at-smaller g c = omega (arith, c.loop-at-test.true, (line-within _ _ _ c.line_end-end.ensures c.loop-at-test.true).0)
 
 pub loop-at-preserved : goal.loop-at-preserved
-loop-at-preserved g c = (omega (arith, c.loop-at.invariant.0, (line-within _ _ _ c.line_end-end.ensures c.loop-at-test.true).0), search rules, search rules)
-
-pub shape_of-kept : goal.shape_of-kept
-shape_of-kept g c = c.loop-at.invariant.1
-
-pub shape_of-marks : goal.shape_of-marks
-shape_of-marks g c = c.loop-at.invariant.2
-
-pub returns : goal.returns
-returns g c = c.loop-at.invariant.0
+loop-at-preserved g c = omega (arith, c.loop-at.invariant, (line-within _ _ _ c.line_end-end.ensures c.loop-at-test.true).0)

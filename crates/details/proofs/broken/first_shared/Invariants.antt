@@ -1,14 +1,11 @@
 -- `details::broken::first_shared` meets its contract.
-use Prim.Native.Nat.{◌-◌, ◌≤◌}
-use mathlib.Core.Path.{◌≡◌}
-use lib.Dec.{ltb}
-use Rattle.tables.specs.Every.{first_of}
-use Rattle.details.specs.declared.search.Test.TheVariants.{Shares}
-use Rattle.details.specs.Search.{first_in}
+use Rattle.std.proofs.Common.{◌≡◌, ℕ, ◌-◌, Option}
+use Rattle.std.specs.Prelude.{is_some}
+use Rattle.std.specs.List.{find, range_with_len}
+use Rattle.details.specs.Search.{first}
 use Rattle.details.proofs.broken.first_shared.Given as goal
 
 abbrev pub invariant-loop-number : goal.invariant-loop-number
-invariant-loop-number l = (l.number ≤ l.n) × (first_of l.number (λ k. ltb (first_in l.variables (Shares l.v l.part l.shared k)) l.v) ≡ l.number)
-
-abbrev pub decreases-loop-number : goal.decreases-loop-number
-decreases-loop-number l = l.n - l.number
+invariant-loop-number g l =
+    (other : ℕ → Option ℕ) → ((n : ℕ) (told : Option ℕ) → goal.F-post g l.sharing n told → told ≡ other n)
+    → first l.most (λ n. is_some (other n)) ≡ find (λ n. is_some (other n)) (range_with_len l.number (l.most - l.number))

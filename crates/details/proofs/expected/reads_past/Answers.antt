@@ -9,4 +9,4 @@ use Rattle.details.proofs.expected.reads_past.Goals as goal
 
 pub returns : goal.returns
 unfolding outlined
-returns c = c.goes_past.ensures ∙ ap (λ (o : Outline). goes_past o.step c.args.place) c.read_text-outline.ensures ∙ ap (λ (t : List ℕ). goes_past (reading t).step c.args.place) c.name_of.ensures
+returns c = c.goes_past.ensures ∙ ap (λ (o : Outline). goes_past o.step c.args.place) c.read_text.ensures ∙ ap (λ (t : List ℕ). goes_past (reading t).step c.args.place) c.name_of.ensures

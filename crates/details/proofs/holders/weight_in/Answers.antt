@@ -1,33 +1,38 @@
 -- `details::holders::weight_in` meets its contract.
-use Prim.Native.Nat.{ℕ, ◌+◌}
 use native.Mathlib.Omega.{arith}
-use mathlib.Core.Path.{ap, ◌∙◌}
-use lib.ListN.{get_or}
-use Rattle.tables.specs.Marks.{has}
-use Rattle.tables.specs.Tables.{bits_to, variable_part_in}
-use Rattle.tables.proofs.MarkLaws.{at_count}
+use Prim.Native.Nat.{ℕ, ◌≤◌, ◌*◌, ◌+◌}
+use mathlib.Core.Path.{refl, sym, ap, subst, ◌∙◌}
+use lib.ListN.{length}
+use Rattle.std.specs.Prelude.{Option, IfSome}
+use Rattle.tables.specs.Marks.{joined}
+use Rattle.tables.specs.Tables.{piece_in, piece_bits}
 use Rattle.details.specs.Holders.{behind}
-use Rattle.details.proofs.HolderLaws.{joined-start, has_more, behind_more, own-few, chosen-few}
+use Rattle.details.proofs.HolderLaws.{weigh_on, weigh-first, piece_most}
 use Rattle.details.proofs.holders.weight_in.Goals as goal
+use Rattle.details.proofs.holders.weight_in.Goals.{in-Some, in-None}
 
 pub loop-k-init : goal.loop-k-init
-unfolding has behind
-loop-k-init c = (omega arith, omega arith, joined-start (has _) _, joined-start (behind _) _)
+unfolding joined behind
+loop-k-init c = record { is = refl; small = tt }
 
 pub loop-k-preserved : goal.loop-k-preserved
 loop-k-preserved c =
-    let own = own-few _ _ c.piece_weight-own.ensures c.piece_size-size.ensures.is in
-    let near = c.piece_size-size.ensures.small in
-    let so_far = c.loop-k.invariant.1 in (
-      omega arith,
-      chosen-few c.loop-k.found {x = c.loop-k.weight + c.piece_size-size.result} {y = c.piece_weight-own.result} c.choose-weight.ensures (omega arith) (omega arith),
-      has_more _ _ _ c.loop-k.invariant.2 c.piece_holds-found.ensures,
-      behind_more _ _ _ c.loop-k.invariant.2 c.loop-k.invariant.3 c.piece_size-size.ensures.is c.piece_weight-own.ensures c.choose-weight.ensures,
-    )
-
-pub returns : goal.returns
-returns c =
-    record {
-      is = at_count (λ (k : ℕ). behind c.args.number (bits_to (variable_part_in c.args.variables.now c.variable_part-at.result) k)) c.loop-k.invariant.0 c.loop-k-test.false c.word-n.ensures.is c.loop-k.invariant.3 ∙ ap (λ (at : ℕ). behind c.args.number (bits_to (variable_part_in c.args.variables.now at) (get_or c.args.variables.now (at + 2) 0))) c.variable_part-at.ensures.is;
-      small = omega (arith, c.loop-k.invariant.0, c.loop-k.invariant.1, c.word-n.ensures.small);
-    }
+    let here = c.piece_at-piece.ensures.is in
+    let bits = λ (at : ℕ). piece_bits (piece_in c.args.variables.now at) in
+    let most = 4294967296 * (c.loop-k.k + 1) in
+    elim c.match-weight.branch [
+      | in-Some w ↦
+          let above = rw w.in-Some.is at c.loop-k.invariant.small in
+          record {
+            is = w.weight-is ∙ weigh_on _ _ _ c.loop-k.invariant.is w.in-Some.is (w.piece_size.ensures.is ∙ ap (λ (at : ℕ). length (bits at)) here);
+            small = subst (λ (o : Option ℕ). IfSome o (λ v. v ≤ most)) (sym w.weight-is) (omega (arith, above, w.piece_size.ensures.small));
+          }
+      | in-None w ↦
+          let is = w.weight-is ∙ w.piece_weight-weight.ensures in
+          record {
+            is = is ∙ ap (λ (at : ℕ). behind c.args.number (bits at)) here ∙ weigh-first _ _ _ c.loop-k.invariant.is w.in-None.is;
+            small =
+                subst (λ (o : Option ℕ). IfSome o (λ v. v ≤ most)) (sym is)
+                (piece_most c.args.variables.now c.piece_at-piece.result c.args.number most (c.type_inv.variables (c.piece_at-piece.result + 1)).fits (omega arith));
+          }
+    ]

@@ -7,4 +7,4 @@ use Rattle.details.specs.Places.{extent_of}
 use Rattle.details.proofs.places.name_at.Goals as goal
 
 pub returns : goal.returns
-returns c = c.name_of.ensures ∙ ap₂ (name_of c.args.text.now) (c.place_of.ensures ∙ ap (λ (s : Scanned). place_of s.token) c.scan_at-found.ensures) (c.extent_of.ensures ∙ ap (λ (s : Scanned). extent_of s.token) c.scan_at-found.ensures)
+returns c = c.name_of.ensures ∙ ap₂ (name_of c.args.text.now) (c.place.ensures ∙ ap (λ (s : Scanned). place_of s.token) c.scan_at-token.ensures) (c.extent_of.ensures ∙ ap (λ (s : Scanned). extent_of s.token) c.scan_at-token.ensures)

@@ -1,10 +1,7 @@
 -- `details::places::opening` meets its contract.
-use mathlib.Core.Path.{◌≡◌}
-use Rattle.details.specs.Places.{opening_from, opening_of}
+use Rattle.std.proofs.Common.{◌≡◌, ◌-◌}
+use Rattle.details.specs.Places.{opening_of, opening_from}
 use Rattle.details.proofs.places.opening.Given as goal
 
-abbrev pub invariant-loop-room : goal.invariant-loop-room
-invariant-loop-room l = opening_of l.text l.place ≡ opening_from l.text l.place l.room l.at l.best
-
-abbrev pub decreases-loop-room : goal.decreases-loop-room
-decreases-loop-room l = l.room
+abbrev pub invariant-loop : goal.invariant-loop
+invariant-loop l = opening_of l.text l.place ≡ opening_from l.text l.place (l.end - l.counter) l.at l.last

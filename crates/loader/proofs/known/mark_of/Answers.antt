@@ -6,21 +6,15 @@ use Rattle.loader.specs.Known.{mark_of}
 use Rattle.loader.proofs.KnownLaws.{mark_on, mark-end}
 use Rattle.loader.proofs.known.mark_of.Goals as goal
 
-pub loop-k-init : goal.loop-k-init
+pub loop-byte-init : goal.loop-byte-init
 unfolding mark_of
-loop-k-init c = (omega arith, refl)
+loop-byte-init c = record { inside = omega arith; to-come = refl }
 
-pub overflow_mul-number : goal.overflow_mul-number
-overflow_mul-number c = omega (arith, c.loop-k.invariant.0)
-
-pub overflow_cast-number : goal.overflow_cast-number
-overflow_cast-number c = omega (arith, c.type_inv.name c.loop-k.k)
-
-pub overflow_add-number : goal.overflow_add-number
-overflow_add-number c = omega (arith, c.loop-k.invariant.0, c.type_inv.name c.loop-k.k)
-
-pub loop-k-preserved : goal.loop-k-preserved
-loop-k-preserved c = (mod-lt _ (omega arith), c.loop-k.invariant.1 ∙ mark_on _ _ _ c.loop-k-test.true)
+pub loop-byte-preserved : goal.loop-byte-preserved
+loop-byte-preserved c = record {
+  inside = mod-lt _ (omega arith);
+  to-come = c.loop-byte.invariant.to-come ∙ mark_on _ _ _ c.loop-byte-test.true;
+}
 
 pub returns : goal.returns
-returns c = sym (c.loop-k.invariant.1 ∙ mark-end _ _ _ c.loop-k-test.false)
+returns c = sym (c.loop-byte.invariant.to-come ∙ mark-end _ _ _ c.loop-byte-test.false)

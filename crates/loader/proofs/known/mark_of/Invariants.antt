@@ -1,12 +1,12 @@
 -- `loader::known::mark_of` meets its contract.
-use Prim.Native.Nat.{◌-◌, ◌<◌}
+use Prim.Native.Nat.{◌<◌}
 use mathlib.Core.Path.{◌≡◌}
-use lib.ListN.{length, drop}
+use lib.ListN.{drop}
 use Rattle.loader.specs.Known.{mark_from, mark_of}
 use Rattle.loader.proofs.known.mark_of.Given as goal
 
-abbrev pub invariant-loop-k : goal.invariant-loop-k
-invariant-loop-k l = (l.number < 2048) × (mark_of l.name ≡ mark_from l.number (drop l.k l.name))
-
-abbrev pub decreases-loop-k : goal.decreases-loop-k
-decreases-loop-k l = length l.name - l.k
+abbrev pub invariant-loop-byte : goal.invariant-loop-byte
+invariant-loop-byte l = record {
+  inside : l.number < 2048;
+  to-come : mark_of l.name ≡ mark_from l.number (drop l.byte-index l.name);
+}

@@ -16,11 +16,8 @@ declarations_of-all-requires c =
     let b = blank-is _ _ _ c.requires.variables_value in
     record { ready = ready-start _ _ _ _ b _ _ c.at_start-start.ensures c.parameters_of-headed.ensures c.requires.reads_value c.requires.writes_value; names = c.mark_heading.ensures _ _ (ap count_of b.registers) (ap count_of b.variables) }
 
-pub shape_of-parameters : goal.shape_of-parameters
-shape_of-parameters c = c.parameters_of-headed.auto.parameters
-
 pub returns : goal.returns
 returns c = record {
-  read = text-judged _ _ _ _ (blank-is _ _ _ c.requires.variables_value) _ _ c.at_start-start.ensures c.parameters_of-headed.ensures _ _ _ c.declarations_of-all.ensures.read c.fixed_after-end.ensures c.moved.ensures;
-  ready = ready-still [] _ _ _ _ _ c.moved.ensures c.declarations_of-all.ensures.noted.ready;
+  read = text-judged _ _ _ _ (blank-is _ _ _ c.requires.variables_value) _ _ c.at_start-start.ensures c.parameters_of-headed.ensures c.declarations_of-all.result _ _ c.declarations_of-all.ensures.read c.fixed_after-step.ensures refl;
+  ready = ready-still [] c.declarations_of-all.result _ _ _ c.fixed_after-step.result refl c.declarations_of-all.ensures.noted.ready;
 }

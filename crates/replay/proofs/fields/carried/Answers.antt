@@ -1,9 +1,10 @@
 -- `replay::fields::carried` meets its contract. Assumes nothing.
-use mathlib.Core.Path.{ap, ◌∙◌}
-use Prim.Native.Nat.{◌^◌}
-use Rattle.bits.specs.Widths.{widest}
-use Rattle.replay.specs.Fields.{below_of}
+use mathlib.Core.Path.{◌∙◌}
+use Rattle.replay.proofs.FieldLaws.{carried-none, carried-some}
 use Rattle.replay.proofs.fields.carried.Goals as goal
 
+pub returns-in_err-number_of : goal.returns-in_err-number_of
+returns-in_err-number_of c = c.from_residual.ensures ∙ carried-none _ c.in_err-number_of.ensures
+
 pub returns : goal.returns
-returns c = c.below.ensures ∙ ap (below_of (2 ^ widest)) c.number_of.ensures
+returns c = c.ok.ensures.value ∙ carried-some _ _ _ c.in_ok-number_of.ensures c.try_from.ensures

@@ -7,17 +7,20 @@ use Rattle.replay.proofs.fields.count_numbers.Goals as goal
 pub loop-more-init : goal.loop-more-init
 loop-more-init c = (refl, omega arith)
 
-pub returns-then-next-eq0 : goal.returns-then-next-eq0
-returns-then-next-eq0 c = sym (c.loop-more.invariant.0 ∙ count-end _ _ c.word-next.ensures _ c.if-next-eq0.true)
-
-pub returns-in_default : goal.returns-in_default
-returns-in_default c = sym (c.loop-more.invariant.0 ∙ count-stops _ _ c.word-next.ensures c.if-next-eq0.false _ (sym c.carried-number.ensures ∙ c.in_default.is))
+pub returns-in_err-carried : goal.returns-in_err-carried
+returns-in_err-carried c =
+    c.from_residual.ensures ∙ count-stops _ (sym c.is_bare.ensures ∙ c.loop-more-test.true) _ c.word.ensures _ c.in_err-carried.ensures
+    ∙ sym c.loop-more.invariant.0
 
 pub loop-more-smaller : goal.loop-more-smaller
-loop-more-smaller c = tail-shorter _ _ c.word-next.ensures c.if-next-eq0.false _ c.rest-after.ensures
+loop-more-smaller c = tail-shorter _ (sym c.is_bare.ensures ∙ c.loop-more-test.true) _ c.word.ensures _ c.rest-more.ensures
 
 pub loop-more-preserved : goal.loop-more-preserved
-loop-more-preserved c = (
-  c.loop-more.invariant.0 ∙ count-on _ _ c.word-next.ensures c.if-next-eq0.false _ c.rest-after.ensures _ _ (sym c.carried-number.ensures ∙ c.in-Is.is),
-  omega (arith, c.loop-more.invariant.1, tail-shorter _ _ c.word-next.ensures c.if-next-eq0.false _ c.rest-after.ensures),
-)
+loop-more-preserved c =
+    let some = sym c.is_bare.ensures ∙ c.loop-more-test.true in (
+      c.loop-more.invariant.0 ∙ count-on _ some _ c.word.ensures _ c.rest-more.ensures _ _ c.in_ok-carried.ensures,
+      omega (arith, c.loop-more.invariant.1, tail-shorter _ some _ c.word.ensures _ c.rest-more.ensures),
+    )
+
+pub returns : goal.returns
+returns c = count-end _ _ (sym c.is_bare.ensures ∙ c.loop-more-test.false) ∙ sym c.loop-more.invariant.0

@@ -1,26 +1,18 @@
 -- `rules::lists::all_have` meets its contract.
-use Prim.Native.Nat.{ℕ, ◌*◌}
-use native.Mathlib.Omega.{arith}
 use borrow.Author.Rules.{rules}
-use mathlib.Core.Path.{sym, ap, ◌∙◌}
-use lib.Dec.{eqb}
+use borrow.Author.Tests.{tests}
+use mathlib.Core.Path.{refl}
+use lib.ListN.{get_or}
+use Prim.Native.Nat.{ℕ, ◌*◌}
 use Rattle.tables.specs.Words.{present, register_part}
-use Rattle.tables.proofs.Laws.{every-none, gathers, gathered}
+use Rattle.tables.specs.View.{part_no}
+use Rattle.tables.proofs.RangeLaws.{all-range}
 use Rattle.rules.specs.Lists.{all_have}
 use Rattle.rules.proofs.lists.all_have.Goals as goal
 
-pub loop-k-init : goal.loop-k-init
-loop-k-init c = (search rules, sym (every-none _))
-
-pub loop-k-preserved : goal.loop-k-preserved
-loop-k-preserved c =
-    let s = c.args in
-    let at : ℕ = 3 * c.loop-k.k in (
-      omega arith,
-      gathers _ _ c.loop-k.invariant.1
-          (ap (λ (w : ℕ). eqb w 1) c.word.ensures.is ∙ ap (λ (i : ℕ). present s.registers.now (register_part i s.part)) c.word-register.ensures.is),
-    )
-
 pub returns : goal.returns
 unfolding all_have
-returns c = gathered _ c.loop-k.invariant.0 c.loop-k-test.false c.loop-k.invariant.1
+returns c =
+    let a = c.args in
+    all-range (λ (k : ℕ). present a.registers.now (register_part (get_or a.pieces.now (3 * k) 0) (part_no a.part))) _ _ _ refl c.all.ensures.ran
+    (λ x b q k. search (rules, tests))

@@ -1,5 +1,12 @@
 -- `rules::variable::early_of` meets its contract.
-use mathlib.Core.Path.{refl}
+use Prim.Native.Nat.{ℕ}
+use mathlib.Core.Path.{refl, ap, ◌∙◌}
+use mathlib.Core.List.{List}
+use Rattle.rules.specs.Lists.{list_for}
+use Rattle.rules.specs.State.{state_of}
+use Rattle.rules.specs.Variable.{read_of}
+use Rattle.rules.proofs.FaultLaws.{is-none-of}
+use Rattle.rules.specs.Fault.{or_else}
 use Rattle.rules.proofs.VariableLaws.{early-is}
 use Rattle.rules.proofs.variable.early_of.Goals as goal
 
@@ -11,6 +18,18 @@ name_fault-names-requires c = let p = c.requires in record {
 }
 
 pub returns : goal.returns
+unfolding or_else state_of read_of
 returns c =
+    let a = c.args in
     let names = c.name_fault-names.ensures in
-    early-is _ _ _ _ _ _ _ _ names.named names.first names.second c.list_for-read.ensures c.list_for-write.ensures c.fault_if-unpaired.ensures c.or_else.ensures
+    let read = c.list_for-read.ensures ∙ ap (λ (first : List ℕ). list_for a.known.registers.now a.variable first 0) names.first in
+    let write = c.list_for-write.ensures ∙ ap (λ (first : List ℕ). list_for a.known.registers.now a.variable first 1) names.first in
+    record {
+      fault =
+          early-is _ _ _ _ _ _ _ _ c.list_for-read.result c.list_for-write.result names.named read write
+          (c.fault_if-unpaired.ensures ∙ rw (is-none-of _ c.is_none.ensures, is-none-of _ c.is_none-2.ensures)) c.or.ensures;
+      read = read;
+      write = write;
+      firsts = names.first;
+      seconds = names.second;
+    }

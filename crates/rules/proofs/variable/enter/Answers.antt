@@ -1,5 +1,9 @@
 use Rattle.rules.proofs.VariableLaws.{mapped-entry, judged-at, mapped_at}
 use borrow.Author.Rules.{rules}
+use Prim.Native.Nat.{ℕ}
+use Rattle.rules.specs.Fault.{fault_of}
+use mathlib.Core.Path.{sym, ◌∙◌, ap}
+use Rattle.rules.proofs.FaultLaws.{is-none, not-none, of-none}
 use Rattle.rules.proofs.variable.enter.Goals as goal
 
 pub late_number-number-requires : goal.late_number-number-requires
@@ -11,20 +15,21 @@ late_number-number-requires c =
       mapped = mapped-entry _ _ _ _ _ _ p.variables_value p.mapped_2 c.store_variable.ensures c.word-v.ensures.is;
     }
 
-pub returns-then-number-eq0 : goal.returns-then-number-eq0
-returns-then-number-eq0 c =
+pub returns-then-is_some : goal.returns-then-is_some
+returns-then-is_some c = record {
+  stored = c.store_variable.ensures;
+  judged = c.fault_of-fault.ensures ∙ ap (λ (n : ℕ). fault_of n c.args.variable.place) (judged-at _ _ _ c.late_number-number.ensures c.word-v.ensures.is);
+  mapped = λ e. absurd (not-none _ (sym c.is_some.ensures ∙ c.if-is_some.true) e);
+}
+
+pub returns : goal.returns
+returns c =
     let p = c.requires in
     let stored = c.store_variable.ensures in
     let count = c.word-v.ensures.is in
+    let none = is-none _ (sym c.is_some.ensures ∙ c.if-is_some.false) in
     record {
       stored = stored;
-      judged = judged-at _ _ _ c.late_number-number.ensures count;
-      mapped = λ e. mapped_at _ _ _ p.registers_bound c.late_number-number.ensures e count (mapped-entry _ _ _ _ _ _ p.variables_value p.mapped_2 stored count) c.enter_variable.ensures.read c.enter_variable.ensures.write;
+      judged = sym none ∙ c.fault_of-fault.ensures ∙ ap (λ (n : ℕ). fault_of n c.args.variable.place) (judged-at _ _ _ c.late_number-number.ensures count);
+      mapped = λ e. mapped_at _ _ _ p.registers_bound c.late_number-number.ensures (of-none _ _ (sym c.fault_of-fault.ensures ∙ none)) count (mapped-entry _ _ _ _ _ _ p.variables_value p.mapped_2 stored count) c.enter_variable.ensures.read c.enter_variable.ensures.write;
     }
-
-pub returns-else-number-eq0 : goal.returns-else-number-eq0
-returns-else-number-eq0 c = record {
-  stored = c.store_variable.ensures;
-  judged = judged-at _ _ _ c.late_number-number.ensures c.word-v.ensures.is;
-  mapped = λ e. absurd (c.if-number-eq0.false e);
-}

@@ -1,20 +1,30 @@
 -- `script::numbers::value_of` meets its contract. Assumes nothing.
-use Rattle.script.specs.Numbers.{value_of, natural, negated, number_of}
-use mathlib.Core.Path.{sym, ap, ◌∙◌}
-use Rattle.script.proofs.NumberLaws.{begins-room}
-use Rattle.script.proofs.WordLaws.{all_of}
+use mathlib.Core.Path.{sym, ◌∙◌}
+use Rattle.token.specs.Bytes.{bytes}
+use Rattle.script.specs.Numbers.{value_of, negated, natural}
+use Rattle.script.proofs.NumberLaws.{begins-taken, negated-tried, natural-tried}
 use Rattle.script.proofs.numbers.value_of.Goals as goal
 
-pub slice_bounds-number_of-count : goal.slice_bounds-number_of-count
-slice_bounds-number_of-count c = begins-room _ _ (sym c.has_minus.ensures ∙ c.if-has_minus.true)
+pub returns-in_err-number_of-in-Some : goal.returns-in_err-number_of-in-Some
+unfolding value_of negated
+returns-in_err-number_of-in-Some c =
+    let starts = sym (begins-taken (bytes "-") c.args.word.now) ∙ c.in-Some.ensures.cases.0 in
+    rw (starts, value_of, ← c.in-Some.ensures.cases.1, ← c.in_err-number_of-in-Some.ensures) c.from_residual.ensures
 
-pub slice_bounds-number_of-start : goal.slice_bounds-number_of-start
-slice_bounds-number_of-start c = begins-room _ _ (sym c.has_minus.ensures ∙ c.if-has_minus.true)
+pub returns-in_err-number_of-in-None : goal.returns-in_err-number_of-in-None
+unfolding value_of natural
+returns-in_err-number_of-in-None c =
+    let not = sym (begins-taken (bytes "-") c.args.word.now) ∙ c.in-None.ensures.cases in
+    rw (not, value_of, ← c.in_err-number_of-in-None.ensures) c.from_residual-in_err-number_of-in-None.ensures
 
-pub returns-then-has_minus : goal.returns-then-has_minus
+pub returns-in_ok-number_of-in-Some : goal.returns-in_ok-number_of-in-Some
 unfolding value_of
-returns-then-has_minus c = rw (sym c.has_minus.ensures ∙ c.if-has_minus.true, value_of) (c.negated_value.ensures ∙ ap negated (c.number_of.ensures ∙ ap number_of (all_of c.args.word.now 1)))
+returns-in_ok-number_of-in-Some c =
+    let starts = sym (begins-taken (bytes "-") c.args.word.now) ∙ c.in-Some.ensures.cases.0 in
+    rw (starts, value_of, ← c.in-Some.ensures.cases.1, ← c.in_ok-number_of-in-Some.ensures) (negated-tried _ _ c.checked_sub_unsigned.ensures)
 
-pub returns-else-has_minus : goal.returns-else-has_minus
+pub returns-in_ok-number_of-in-None : goal.returns-in_ok-number_of-in-None
 unfolding value_of
-returns-else-has_minus c = rw (sym c.has_minus.ensures ∙ c.if-has_minus.false, value_of) (c.natural_value.ensures ∙ ap natural c.number_of-else-has_minus.ensures)
+returns-in_ok-number_of-in-None c =
+    let not = sym (begins-taken (bytes "-") c.args.word.now) ∙ c.in-None.ensures.cases in
+    rw (not, value_of, ← c.in_ok-number_of-in-None.ensures) (c.ok.ensures.value ∙ natural-tried _ _ c.try_from.ensures)

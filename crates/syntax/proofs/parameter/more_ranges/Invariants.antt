@@ -1,10 +1,8 @@
+use Prim.Native.Nat.{◌-◌}
 use mathlib.Core.Path.{◌≡◌}
 use lib.ListN.{length}
 use Rattle.syntax.specs.Parameter.{more_ranges}
 use Rattle.syntax.proofs.parameter.more_ranges.Given as goal
 
-abbrev pub invariant-loop-room : goal.invariant-loop-room
-invariant-loop-room l = (length l.table ≡ length l.initial.table) × (more_ranges l.text (length l.text) l.initial.gathered l.initial.table l.initial.here ≡ more_ranges l.text l.room l.gathered l.table l.here)
-
-abbrev pub decreases-loop-room : goal.decreases-loop-room
-decreases-loop-room l = l.room
+abbrev pub invariant-loop : goal.invariant-loop
+invariant-loop l = (length l.table ≡ length l.initial.table) × (more_ranges l.text l.end l.fn.so_far.value l.initial.table l.fn.so_far.step ≡ more_ranges l.text (l.end - l.counter) l.all.value l.table l.all.step)

@@ -1,10 +1,8 @@
+use Prim.Native.Nat.{◌-◌}
 use mathlib.Core.Path.{◌≡◌}
 use lib.ListN.{length}
 use Rattle.syntax.specs.Piece.{more_bits}
 use Rattle.syntax.proofs.piece.more_bits.Given as goal
 
-abbrev pub invariant-loop-room : goal.invariant-loop-room
-invariant-loop-room l = (length l.table ≡ length l.initial.table) × (more_bits l.text l.place l.extent (length l.text) l.initial.gathered l.initial.table l.initial.here ≡ more_bits l.text l.place l.extent l.room l.gathered l.table l.here)
-
-abbrev pub decreases-loop-room : goal.decreases-loop-room
-decreases-loop-room l = l.room
+abbrev pub invariant-loop : goal.invariant-loop
+invariant-loop l = (length l.table ≡ length l.initial.table) × (more_bits l.text l.name.place l.name.length l.end l.fn.so_far.value l.initial.table l.fn.so_far.step ≡ more_bits l.text l.name.place l.name.length (l.end - l.counter) l.all.value l.table l.all.step)

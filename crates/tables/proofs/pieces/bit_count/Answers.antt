@@ -9,13 +9,13 @@ use borrow.Author.Rules.{rules}
 use Rattle.tables.proofs.pieces.bit_count.Goals as goal
 
 pub loop-k-init : goal.loop-k-init
-loop-k-init c = (search rules, search rules, count_none _)
+loop-k-init c = (search rules, count_none _)
 
 pub loop-k-preserved : goal.loop-k-preserved
-loop-k-preserved c = let run = c.piece_run-run in
+loop-k-preserved c = let run = c.piece_run-bits in
     let l = c.loop-k in
-    (omega arith, omega arith, count-more _ _ run.result.from run.result.n l.invariant.2 run.ensures.bits)
+    (omega arith, count-more _ _ run.result.from run.result.n l.invariant.1 run.ensures.bits)
 
 pub returns : goal.returns
 returns c = let s = c.args in
-    at_count (λ (k : ℕ). length (bits_to (variable_part_in s.variables.now s.at) k)) c.loop-k.invariant.0 c.loop-k-test.false c.word-n.ensures.is c.loop-k.invariant.2
+    at_count (λ (k : ℕ). length (bits_to (variable_part_in s.variables.now s.at) k)) (omega arith) c.loop-k-test.false c.word-n.ensures.is c.loop-k.invariant.1

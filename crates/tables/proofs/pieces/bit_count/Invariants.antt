@@ -3,11 +3,8 @@
 use Rattle.tables.specs.Tables.{bits_to, variable_part_in}
 use lib.ListN.{length}
 use mathlib.Core.Path.{◌≡◌}
-use Prim.Native.Nat.{◌≤◌, ◌-◌, ◌*◌}
+use Prim.Native.Nat.{◌≤◌, ◌*◌}
 use Rattle.tables.proofs.pieces.bit_count.Given as goal
 
 abbrev pub invariant-loop-k : goal.invariant-loop-k
-invariant-loop-k l = (l.k ≤ l.n) × (l.bits ≤ 4294967296 * l.k) × (l.bits ≡ length (bits_to (variable_part_in l.variables l.at) l.k))
-
-abbrev pub decreases-loop-k : goal.decreases-loop-k
-decreases-loop-k l = l.n - l.k
+invariant-loop-k l = (l.bits ≤ 4294967296 * l.k) × (l.bits ≡ length (bits_to (variable_part_in l.variables l.at) l.k))

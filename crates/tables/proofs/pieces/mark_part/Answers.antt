@@ -14,7 +14,7 @@ use borrow.Author.Rules.{rules}
 use Rattle.tables.proofs.pieces.mark_part.Goals as goal
 
 pub loop-k-init : goal.loop-k-init
-loop-k-init c = (search rules, refl, marks-none _ _)
+loop-k-init c = marks-none _ _
 
 pub mark_piece-requires : goal.mark_piece-requires
 mark_piece-requires c = record {
@@ -26,15 +26,12 @@ pub loop-k-preserved : goal.loop-k-preserved
 loop-k-preserved c =
     let s = c.args in
     let l = c.loop-k in
-    (omega arith, omega arith, marks-more s.map.now _ l.k l.invariant.2 c.mark_piece.ensures refl)
-
-pub shape_of-map : goal.shape_of-map
-shape_of-map c = c.loop-k.invariant.1
+    marks-more s.map.now _ l.k l.invariant c.mark_piece.ensures refl
 
 pub returns : goal.returns
 returns c =
     let s = c.args in
     let l = c.loop-k in
     let held = c.pick-held.ensures ∙ ap (λ (t : ℕ). cond (eqb t 1) 2 1) c.word.ensures.is in
-    at_count (λ (k : ℕ). marks s.map.now (joined (λ j. piece_enters (cond (eqb (variable_part_in s.variables.now s.at).trigger 1) 2 1) (piece_in s.variables.now (piece_at s.at j))) k)) l.invariant.0 c.loop-k-test.false
-    c.word-n.ensures.is (l.invariant.2 ∙ ap (λ (h : ℕ). marks s.map.now (joined (λ j. piece_enters h (piece_in s.variables.now (piece_at s.at j))) l.k)) held)
+    at_count (λ (k : ℕ). marks s.map.now (joined (λ j. piece_enters (cond (eqb (variable_part_in s.variables.now s.at).trigger 1) 2 1) (piece_in s.variables.now (piece_at s.at j))) k)) (omega arith) c.loop-k-test.false
+    c.word-n.ensures.is (l.invariant ∙ ap (λ (h : ℕ). marks s.map.now (joined (λ j. piece_enters h (piece_in s.variables.now (piece_at s.at j))) l.k)) held)

@@ -9,5 +9,5 @@ use Rattle.tables.proofs.pieces.mark_piece.Goals as goal
 pub returns : goal.returns
 returns c =
     let s = c.args in
-    marks-both s.map.now _ _ c.mark_run.ensures c.piece_run-run.ensures.bits
-    (c.mark_run-2.ensures ∙ ap (λ (r : ℕ). marks c.mark_run.new.map (down_from (64 * r + widest) s.held)) c.word-register.ensures.is)
+    marks-both s.map.now _ _ c.mark.ensures c.piece_run.ensures.bits
+    (c.mark-2.ensures ∙ ap (λ (r : ℕ). marks c.mark.new.map (down_from (64 * r + widest) s.held)) c.word-register.ensures.is)

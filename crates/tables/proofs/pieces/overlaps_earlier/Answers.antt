@@ -1,18 +1,11 @@
--- `tables::pieces::overlaps_earlier` meets its contract: the loop invariant says that what is gathered so far is the
--- definition at the counter.
-use Rattle.tables.proofs.Laws.{some-none, finds, found}
-use Rattle.tables.specs.Scan.{overlaps_earlier}
-use mathlib.Core.Path.{sym}
-use native.Mathlib.Omega.{arith}
+-- `tables::pieces::overlaps_earlier` meets its contract: the chain tests each earlier piece.
 use borrow.Author.Rules.{rules}
+use borrow.Author.Tests.{tests}
+use mathlib.Core.Path.{refl}
+use Rattle.tables.specs.Scan.{overlaps_earlier}
+use Rattle.tables.proofs.RangeLaws.{any-range}
 use Rattle.tables.proofs.pieces.overlaps_earlier.Goals as goal
-
-pub loop-j-init : goal.loop-j-init
-loop-j-init c = (search rules, sym (some-none _))
-
-pub loop-j-preserved : goal.loop-j-preserved
-loop-j-preserved c = (omega arith, finds _ _ c.loop-j.invariant.1 c.overlaps-found.ensures)
 
 pub returns : goal.returns
 unfolding overlaps_earlier
-returns c = found _ c.loop-j.invariant.0 c.loop-j-test.false c.loop-j.invariant.1
+returns c = any-range _ _ _ _ refl c.any.ensures.ran (λ x b q k. search (rules, tests))

@@ -1,16 +1,9 @@
--- `tables::registers::clashes_earlier` meets its contract: the loop invariant says that what is gathered so far is the
--- definition at the counter.
-use Rattle.tables.proofs.Laws.{some-none, finds, found}
-use mathlib.Core.Path.{sym}
-use native.Mathlib.Omega.{arith}
+-- `tables::registers::clashes_earlier` meets its contract: the chain tests each earlier register.
 use borrow.Author.Rules.{rules}
+use borrow.Author.Tests.{tests}
+use mathlib.Core.Path.{refl}
+use Rattle.tables.proofs.RangeLaws.{any-range}
 use Rattle.tables.proofs.registers.clashes_earlier.Goals as goal
 
-pub loop-j-init : goal.loop-j-init
-loop-j-init c = (search rules, sym (some-none _))
-
-pub loop-j-preserved : goal.loop-j-preserved
-loop-j-preserved c = (omega arith, finds _ _ c.loop-j.invariant.1 c.clashes-found.ensures)
-
 pub returns : goal.returns
-returns c = found _ c.loop-j.invariant.0 c.loop-j-test.false c.loop-j.invariant.1
+returns c = any-range _ _ _ _ refl c.any.ensures.ran (λ x b q k. search (rules, tests))

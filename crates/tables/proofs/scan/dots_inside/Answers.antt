@@ -7,17 +7,16 @@ use mathlib.Core.Bool.{not, ◌||◌, Bool}
 use mathlib.Core.Path.{sym, ap}
 use Prim.Native.Nat.{◌+◌}
 use native.Mathlib.Omega.{arith}
-use borrow.Author.Rules.{rules}
 use Rattle.tables.proofs.scan.dots_inside.Goals as goal
 
 pub loop-b-init : goal.loop-b-init
-loop-b-init c = (search rules, sym (every-none _))
+loop-b-init c = sym (every-none _)
 
 pub loop-b-preserved : goal.loop-b-preserved
 loop-b-preserved c =
     let l = c.loop-b in
     let a = c.args in
-    (omega arith, gathers _ _ l.invariant.1 (ap (λ (x : Bool). not x || not (eqb (get_or a.map.now (a.from + l.b) 0) 0)) c.bit_of.ensures))
+    gathers _ _ l.invariant (ap (λ (x : Bool). not x || not (eqb (get_or a.map.now (a.from + l.b) 0) 0)) c.bit_of.ensures)
 
 pub returns : goal.returns
-returns c = gathered _ c.loop-b.invariant.0 c.loop-b-test.false c.loop-b.invariant.1
+returns c = gathered _ (omega arith) c.loop-b-test.false c.loop-b.invariant

@@ -2,16 +2,12 @@
 -- definition at the counter.
 use Rattle.bits.specs.Bits.{bit}
 use Rattle.tables.specs.Every.{every}
-use Rattle.tables.specs.Scan.{at_once}
 use lib.Dec.{eqb}
 use lib.ListN.{get_or}
 use mathlib.Core.Bool.{not, ◌||◌}
 use mathlib.Core.Path.{◌≡◌}
-use Prim.Native.Nat.{◌≤◌, ◌-◌, ◌+◌}
+use Prim.Native.Nat.{◌+◌}
 use Rattle.tables.proofs.scan.dots_inside.Given as goal
 
 abbrev pub invariant-loop-b : goal.invariant-loop-b
-invariant-loop-b l = (l.b ≤ at_once) × (l.ok ≡ every l.b (λ k. not (bit k l.dots) || not (eqb (get_or l.map (l.from + k) 0) 0)))
-
-abbrev pub decreases-loop-b : goal.decreases-loop-b
-decreases-loop-b l = at_once - l.b
+invariant-loop-b l = l.ok ≡ every l.b (λ k. not (bit k l.dots) || not (eqb (get_or l.map (l.from + k) 0) 0))

@@ -4,14 +4,9 @@ use Rattle.tables.specs.Every.{every}
 use Rattle.tables.specs.Rules.{variable_fault}
 use Rattle.tables.specs.Scan.{Mapped}
 use lib.Dec.{eqb}
-use lib.ListN.{length}
 use mathlib.Core.Bool.{true}
 use mathlib.Core.Path.{◌≡◌}
-use Prim.Native.Nat.{◌≤◌, ◌-◌}
 use Rattle.tables.proofs.whole.variables_kept.Given as goal
 
 abbrev pub invariant-loop-v : goal.invariant-loop-v
-invariant-loop-v l = (l.v ≤ l.n) × (length l.reads ≡ 4096) × (length l.writes ≡ 4096) × Mapped l.variables l.v l.reads l.writes × (every l.v (λ u. eqb (variable_fault l.registers l.variables u) 0) ≡ true)
-
-abbrev pub decreases-loop-v : goal.decreases-loop-v
-decreases-loop-v l = l.n - l.v
+invariant-loop-v l = Mapped l.variables l.v l.reads l.writes × (every l.v (λ u. eqb (variable_fault l.registers l.variables u) 0) ≡ true)

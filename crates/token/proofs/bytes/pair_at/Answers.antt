@@ -1,7 +1,6 @@
--- `token::pair_at` meets its contract. Assumes nothing.
+-- `token::bytes::pair_at` meets its contract. Assumes nothing.
 use native.Mathlib.Omega.{arith}
 use mathlib.Core.Path.{sym}
-use borrow.Author.Tests.{ne_eqb, eq-eqb}
 use Rattle.token.proofs.GapSteps.{starts-short, starts-here}
 use Rattle.token.proofs.bytes.pair_at.Goals as goal
 
@@ -11,8 +10,5 @@ returns-then-text-i c = sym (starts-short _ _ c.args.text.now c.args.i (omega ar
 pub returns-then-text-j : goal.returns-then-text-j
 returns-then-text-j c = sym (starts-short _ _ _ _ c.if-text-j.true)
 
-pub returns-then-text-i-2 : goal.returns-then-text-i-2
-returns-then-text-i-2 c = rw (starts-here _ _ _ _ c.if-text-j.false, eq-eqb _ _ c.if-text-i-2.true)
-
-pub returns-else-text-i-2 : goal.returns-else-text-i-2
-returns-else-text-i-2 c = rw (starts-here _ _ _ _ c.if-text-j.false, ne_eqb _ _ c.if-text-i-2.false)
+pub returns : goal.returns
+returns c = sym (starts-here _ _ _ _ c.if-text-j.false)

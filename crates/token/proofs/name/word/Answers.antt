@@ -1,17 +1,19 @@
 -- `token::name::word` meets its contract: the one word that has the name's slot decides. Assumes nothing.
-use mathlib.Core.Path.{sym, ◌∙◌}
+use mathlib.Core.Path.{refl, ◌∙◌}
 use native.Mathlib.Omega.{arith}
-use Rattle.token.proofs.Slots.{found_word_lem, other_word, empty-word}
+use Rattle.token.proofs.Below.{none_below, below-some, below-none}
+use Rattle.token.proofs.Slots.{other_word, word-told, empty-word}
 use Rattle.token.proofs.name.word.Goals as goal
 
 pub returns-then-place-end : goal.returns-then-place-end
-returns-then-place-end c = empty-word _ _ c.args.text.now c.if-place-end.true
+returns-then-place-end c = none_below 29 _ (let none = empty-word _ _ c.args.text.now c.if-place-end.true in omega (arith, none))
 
-pub returns-then-k-ge29 : goal.returns-then-k-ge29
-returns-then-k-ge29 c = other_word _ _ _ c.slot.ensures c.word_in-k.ensures (λ h. absurd (omega (arith, h, c.if-k-ge29.true)))
+pub returns-in_err-word : goal.returns-in_err-word
+returns-in_err-word c =
+    let none = other_word _ _ _ c.slot.ensures refl (λ h. absurd (omega (arith, h, below-none 29 _ c.in_err-word.ensures))) in
+    c.from_residual.ensures ∙ none_below 29 _ (omega (arith, none))
 
-pub returns-then-is_word : goal.returns-then-is_word
-returns-then-is_word c = found_word_lem _ _ _ c.slot.ensures c.word_in-k.ensures c.if-k-ge29.false (sym c.is_word.ensures ∙ c.if-is_word.true)
-
-pub returns-else-is_word : goal.returns-else-is_word
-returns-else-is_word c = other_word _ _ _ c.slot.ensures c.word_in-k.ensures (λ h. sym c.is_word.ensures ∙ c.if-is_word.false)
+pub returns : goal.returns
+returns c =
+    let some = below-some 29 _ c.in_ok-word.ensures in
+    c.then_some.ensures ∙ word-told _ _ _ c.slot.ensures some.1 (omega (arith, some.0, some.1)) _ c.is_word.ensures

@@ -1,17 +1,16 @@
--- `token::run::run_end` meets its contract: wherever the loop stands, the run ends where it ends from the start.
--- Assumes nothing.
+-- `token::run::run_end` meets its contract. Assumes nothing.
 use mathlib.Core.Path.{refl}
-use Rattle.token.proofs.RunSteps.{run_on, run-stopped, run-over}
+use Rattle.token.proofs.RunSteps.{run_on, run-stopped, run-over-end}
 use Rattle.token.proofs.run.run_end.Goals as goal
 
-pub loop-i-init : goal.loop-i-init
-loop-i-init c = refl
+pub returns-then-not-passes : goal.returns-then-not-passes
+returns-then-not-passes g c test tells =
+    run-stopped test _ _ (c.loop-i.invariant test tells) c.loop-i-test.true (tells _ _ c.passes.ensures) c.if-not-passes.true
 
 pub loop-i-preserved : goal.loop-i-preserved
-loop-i-preserved c = run_on _ _ _ c.loop-i.invariant c.loop-i-test.true c.passes.ensures c.if-passes.true
-
-pub returns-else-passes : goal.returns-else-passes
-returns-else-passes c = run-stopped _ _ _ c.loop-i.invariant c.loop-i-test.true c.passes.ensures c.if-passes.false
+loop-i-preserved g c test tells =
+    run_on test _ _ (c.loop-i.invariant test tells) c.loop-i-test.true (tells _ _ c.passes.ensures) c.if-not-passes.false
 
 pub returns : goal.returns
-returns c = run-over _ _ _ c.loop-i.invariant c.loop-i-test.false
+returns g c test tells =
+    run-over-end test _ _ (c.loop-i.invariant test tells) _ _ refl c.loop-i-test.false c.loop-i.auto.i-end c.max.ensures

@@ -1,6 +1,6 @@
 -- `wiring::order::register_count` meets its contract: the pieces passed have named `seen` registers.
 use Prim.Native.Nat.{ℕ, ◌+◌}
-use mathlib.Core.Path.{◌∙◌, refl, sym, ap}
+use mathlib.Core.Path.{◌∙◌, sym, ap}
 use native.Mathlib.Omega.{arith}
 use borrow.Author.Rules.{rules}
 use lib.ListN.{length}
@@ -10,7 +10,7 @@ use Rattle.wiring.proofs.order.register_count.Goals as goal
 use Rattle.wiring.proofs.order.register_count.Goals.{then-not-mentioned, else-not-mentioned}
 
 pub loop-k-init : goal.loop-k-init
-loop-k-init c = (search rules, c.requires.few, refl, search rules, sym (ap length (registers-none _ _)))
+loop-k-init c = (search rules, sym (ap length (registers-none _ _)))
 
 pub piece_at-piece-requires : goal.piece_at-piece-requires
 piece_at-piece-requires c = record {
@@ -27,11 +27,11 @@ mentioned-requires c = record {
 pub loop-k-preserved : goal.loop-k-preserved
 loop-k-preserved c =
     elim c.if-not-mentioned.branch [
-      | then-not-mentioned w ↦ (search rules, c.loop-k.invariant.1, refl, omega (arith, w.seen-is), w.seen-is ∙ ap (λ (n : ℕ). n + 1) c.loop-k.invariant.4 ∙ sym (length-new _ _ _ _ c.piece_at-piece.ensures.is (sym c.mentioned.ensures ∙ w.if-not-mentioned.true)))
-      | else-not-mentioned w ↦ (search rules, c.loop-k.invariant.1, refl, omega (arith, w.seen-is), w.seen-is ∙ c.loop-k.invariant.4 ∙ ap length (sym (registers-old _ _ _ _ c.piece_at-piece.ensures.is (sym c.mentioned.ensures ∙ w.if-not-mentioned.false))))
+      | then-not-mentioned w ↦ (omega (arith, w.seen-is), w.seen-is ∙ ap (λ (n : ℕ). n + 1) c.loop-k.invariant.1 ∙ sym (length-new _ _ _ _ c.piece_at-piece.ensures.is (sym c.mentioned.ensures ∙ w.if-not-mentioned.true)))
+      | else-not-mentioned w ↦ (omega (arith, w.seen-is), w.seen-is ∙ c.loop-k.invariant.1 ∙ ap length (sym (registers-old _ _ _ _ c.piece_at-piece.ensures.is (sym c.mentioned.ensures ∙ w.if-not-mentioned.false))))
     ]
 
 pub returns : goal.returns
 returns c =
     let a = c.args in
-    c.loop-k.invariant.4 ∙ ap (λ (n : ℕ). length (registers_to a.variables.now a.part n)) (omega arith)
+    c.loop-k.invariant.1 ∙ ap (λ (n : ℕ). length (registers_to a.variables.now a.part n)) (omega arith)

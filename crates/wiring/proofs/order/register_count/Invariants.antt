@@ -1,12 +1,9 @@
 -- `wiring::order::register_count` meets its contract: the pieces passed have named `seen` registers.
-use Prim.Native.Nat.{◌-◌, ◌≤◌}
+use Prim.Native.Nat.{◌≤◌}
 use mathlib.Core.Path.{◌≡◌}
 use lib.ListN.{length}
 use Rattle.wiring.specs.Order.{registers_to}
 use Rattle.wiring.proofs.order.register_count.Given as goal
 
 abbrev pub invariant-loop-k : goal.invariant-loop-k
-invariant-loop-k l = (l.k ≤ l.count) × (l.count ≤ 8) × (l.count ≡ l.part.count) × (l.seen ≤ l.k) × (l.seen ≡ length (registers_to l.variables l.part l.k))
-
-abbrev pub decreases-loop-k : goal.decreases-loop-k
-decreases-loop-k l = l.count - l.k
+invariant-loop-k l = (l.seen ≤ l.k) × (l.seen ≡ length (registers_to l.variables l.part l.k))

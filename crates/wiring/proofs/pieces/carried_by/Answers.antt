@@ -7,7 +7,7 @@ use Rattle.wiring.proofs.PieceLaws.{covers_low, covers_high, place_found, place-
 use Rattle.wiring.proofs.pieces.carried_by.Goals as goal
 
 pub loop-k-init : goal.loop-k-init
-loop-k-init c = (search rules, omega (arith, c.requires.few), refl)
+loop-k-init c = (omega (arith, c.requires.few), refl)
 
 pub piece_at-piece-requires : goal.piece_at-piece-requires
 piece_at-piece-requires c = record {
@@ -26,13 +26,13 @@ overflow_add-result c =
     omega (arith, covers_high c.piece_at-piece.result a.r a.b (sym c.covers_bit.ensures ∙ c.if-covers_bit.true), c.piece_at-piece.ensures.small)
 
 pub returns-then-covers_bit : goal.returns-then-covers_bit
-returns-then-covers_bit c = sym (c.loop-k.invariant.2 ∙ place_found _ _ _ _ _ _ _ c.loop-k-test.true c.piece_at-piece.ensures.is (sym c.covers_bit.ensures ∙ c.if-covers_bit.true))
+returns-then-covers_bit c = sym (c.loop-k.invariant.1 ∙ place_found _ _ _ _ _ _ _ c.loop-k-test.true c.piece_at-piece.ensures.is (sym c.covers_bit.ensures ∙ c.if-covers_bit.true))
 
 pub size_of-base-requires : goal.size_of-base-requires
 size_of-base-requires c = c.piece_at-piece.ensures.small
 
 pub loop-k-preserved : goal.loop-k-preserved
-loop-k-preserved c = (search rules, omega arith, c.loop-k.invariant.2 ∙ place-next _ _ _ _ _ _ _ _ c.loop-k-test.true c.piece_at-piece.ensures.is (sym c.covers_bit.ensures ∙ c.if-covers_bit.false) c.size_of-base.ensures)
+loop-k-preserved c = (omega arith, c.loop-k.invariant.1 ∙ place-next _ _ _ _ _ _ _ _ c.loop-k-test.true c.piece_at-piece.ensures.is (sym c.covers_bit.ensures ∙ c.if-covers_bit.false) c.size_of-base.ensures)
 
 pub returns : goal.returns
-returns c = sym (c.loop-k.invariant.2 ∙ place_none _ _ _ _ _ _ c.loop-k-test.false)
+returns c = sym (c.loop-k.invariant.1 ∙ place_none _ _ _ _ _ _ c.loop-k-test.false)

@@ -6,7 +6,4 @@ use Rattle.wiring.specs.Pieces.{carried_by, carried_below}
 use Rattle.wiring.proofs.pieces.carried_by.Given as goal
 
 abbrev pub invariant-loop-k : goal.invariant-loop-k
-invariant-loop-k l = (l.k ≤ 8) × (l.base + 4294967296 * l.k ≤ 34359738368) × (carried_by l.variables l.part l.r l.b ≡ carried_below l.variables l.part l.r l.b l.k l.base)
-
-abbrev pub decreases-loop-k : goal.decreases-loop-k
-decreases-loop-k l = l.k
+invariant-loop-k l = (l.base + 4294967296 * l.k ≤ 34359738368) × (carried_by l.variables l.part l.r l.b ≡ carried_below l.variables l.part l.r l.b l.k l.base)

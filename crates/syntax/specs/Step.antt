@@ -1,0 +1,11 @@
+-- How far the reading has come: the next place, or the refusal that stopped it.
+use Rattle.std.specs.Prelude.{ℕ, Result, Err}
+use Rattle.token.specs.declared.Reason.TheVariants.{TooMuch}
+use Rattle.token.specs.declared.Refusal.{Refusal}
+
+abbrev pub Step : Type 0
+Step = Result ℕ Refusal
+
+-- refusal 5
+abbrev pub too_much_at : ℕ → Step
+too_much_at place = Err (record { why = TooMuch; place = place })

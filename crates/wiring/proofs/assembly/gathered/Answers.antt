@@ -1,0 +1,9 @@
+-- `wiring::assembly::gathered` meets its contract: the closure gives each bit as its rule says.
+use borrow.Author.Rules.{rules}
+use borrow.Author.Tests.{tests}
+use Rattle.wiring.specs.Assembly.{Gathered, bit_by}
+use Rattle.wiring.proofs.assembly.gathered.Goals as goal
+
+pub returns : goal.returns
+unfolding bit_by
+returns c = let a = c.args in c.number_of.ensures.is (bit_by a.variables.now a.part (Gathered a.r a.byte a.so_far)) (λ b on k. search (rules, tests))
