@@ -21,7 +21,7 @@ pub enum Given {
 }
 
 // A number of a list that was read; 0 past its end.
-fn item(list: &[usize], at: usize) -> usize
+pub fn item(list: &[usize], at: usize) -> usize
     ensures { result ≡ get_or list.now at 0 }
 {
     list.get(at).copied().unwrap_or(0)
