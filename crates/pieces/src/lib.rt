@@ -31,8 +31,8 @@ fn is_short(store: &[u8], parameters: &[u32], registers: &[u32], variables: &[u3
     loader::is_short(parameters, registers, variables) || store.len() < 8192
 }
 
-// Lays a piece behind what is taken. A store for each byte: a copy would be a call of the C library, and the archive's
-// callers link it without.
+// Lays a piece behind what is taken. A store for each byte: a copy of a slice would be a call of memmove, which the
+// archive for C does not need otherwise.
 fn lay(store: &mut [u8], taken: usize, piece: &[u8])
     requires { taken + length piece.now ≤ length store.old }
     ensures { store.new ≡ laid_at store.old taken piece.now }
