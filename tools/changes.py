@@ -66,10 +66,10 @@ def main(commit):
         print(f"\n== {what}\n")
         print("\n".join(f"gone: {it}" for it in said[kind]["gone"]))
         for it in said[kind]["changed"]:
-            side_by_side(it[0], it[1], it[2])
+            side_by_side(" ".join(it[:-2]), it[-2], it[-1])
     print("\n== Edits and outputs\n")
     for it in said["edits and outputs"]["changed"]:
-        side_by_side(it[0], it[1], it[2]) if len(it) > 2 else print(it)
+        side_by_side(" ".join(it[:-2]), it[-2], it[-1]) if len(it) > 3 else print(it)
     print("\n== Laws of proofs/\n")
     for name in sorted(before):
         if name not in after:

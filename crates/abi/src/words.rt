@@ -53,12 +53,16 @@ pub fn operation_of(words: &[u64]) -> Operation
     )
 }
 
-// Writes words from a slice's front on; those that it has no room for are lost.
+// Writes words from a slice's front on; those that it has no room for are lost. Each has its own test, as few are told:
+// they are stores then, and no copy of a length that is known at the call alone.
 pub fn write<T: Copy>(words: &mut [T], told: &[T])
     ensures { words.new ≡ written told.now words.old }
 {
-    let n = told.len().min(words.len());
-    words[..n].copy_from_slice(&told[..n]);
+    for i in 0..told.len() {
+        if i < words.len() {
+            words[i] = told[i];
+        }
+    }
 }
 
 pub fn tell_operation(operation: Operation, words: &mut [u64])

@@ -4,6 +4,8 @@ use Rattle.tables.specs.Marks.{has}
 use Rattle.tables.specs.Tables.{bits_of, mentioned_to, mentioned_by, variable_part_of}
 use Rattle.tables.specs.declared.Part.{Part}
 use Rattle.tables.specs.View.{part_no}
+use Rattle.details.specs.declared.holders.Shared.{Shared}
+use Rattle.details.specs.declared.holders.Shared.TheVariants.{Bit, Register}
 
 -- variable v maps this bit in a part
 abbrev pub holds : List ℕ → Part → ℕ → ℕ → Bool
@@ -37,6 +39,11 @@ share_bit vs v part bit u = holds vs part bit v && holds vs part bit u
 -- 15: this register, one of the two being trigger
 abbrev pub share_register : List ℕ → ℕ → Part → ℕ → ℕ → Bool
 share_register vs v part register u = touches vs part register v && touches vs part register u && (pulls vs part v || pulls vs part u)
+
+-- the one or the other
+abbrev pub share_in : List ℕ → ℕ → Part → Shared → ℕ → ℕ → Bool
+share_in vs v part Bit bit u = share_bit vs v part bit u
+share_in vs v part Register register u = share_register vs v part register u
 
 -- a register is mentioned by one of the first k pieces of a variable's part
 abbrev pub mentioned_below : List ℕ → Part → ℕ → ℕ → ℕ → Bool

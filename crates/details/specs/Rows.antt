@@ -14,21 +14,21 @@ use Rattle.details.specs.Search.{first}
 abbrev pub holder_of : List ℕ → Part → ℕ → ℕ → Option ℕ
 holder_of vs part i b = first (count_of vs) (holds vs part (64 * i + b))
 
--- the weight that it has in that variable
-abbrev pub weight_of : List ℕ → Part → ℕ → ℕ → Option ℕ
-weight_of vs part i b = option_and_then (weight_in vs part (64 * i + b)) (holder_of vs part i b)
+-- the weight that it has in that variable, if one holds it
+abbrev pub weight_held : List ℕ → Part → ℕ → ℕ → Option ℕ
+weight_held vs part i b = option_and_then (weight_in vs part (64 * i + b)) (holder_of vs part i b)
 
 -- the same as a number, by which two bits are compared: where no variable holds the bit, what the words behind the last
 -- variable say
-abbrev pub weight_at : List ℕ → Part → ℕ → ℕ → ℕ
-weight_at vs part i b = unwrap_or (weight_in vs part (64 * i + b) (unwrap_or (holder_of vs part i b) (count_of vs))) 0
+abbrev pub weight_of : List ℕ → Part → ℕ → ℕ → ℕ
+weight_of vs part i b = unwrap_or (weight_in vs part (64 * i + b) (unwrap_or (holder_of vs part i b) (count_of vs))) 0
 
 -- bits a and b of a register belong together: one variable holds them, and in it they lie as far apart as here; a bit
 -- that none holds belongs with itself
 abbrev pub together : List ℕ → Part → ℕ → ℕ → ℕ → Bool
 together vs part i a b =
     option_eq eqb (holder_of vs part i b) (holder_of vs part i a)
-    && eqb (weight_at vs part i b + a) (weight_at vs part i a + b)
+    && eqb (weight_of vs part i b + a) (weight_of vs part i a + b)
 
 -- how many of a register's first `left` bits, from the highest down, belong together
 abbrev pub run_below : List ℕ → ℕ → Part → ℕ → ℕ
@@ -36,7 +36,7 @@ run_below vs i part left = unwrap_or (first left (λ k. not (together vs part i 
 
 -- both parts of a register have one place and one mask, and each bit is the same bit of one variable in both
 abbrev pub same_bit : List ℕ → ℕ → ℕ → Bool
-same_bit vs i b = option_eq eqb (holder_of vs Read i b) (holder_of vs Write i b) && eqb (weight_at vs Read i b) (weight_at vs Write i b)
+same_bit vs i b = option_eq eqb (holder_of vs Read i b) (holder_of vs Write i b) && eqb (weight_of vs Read i b) (weight_of vs Write i b)
 
 unfoldable pub same_holders : List ℕ → ℕ → Bool
 same_holders vs i = every widest (same_bit vs i)

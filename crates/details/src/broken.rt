@@ -7,7 +7,7 @@ ghost use Rattle.details.specs.Broken.{first_shared, bare};
 ghost use Rattle.details.specs.Holders.{share_bit, share_register};
 
 use crate::entries::register_word;
-use crate::holders::{holds_bit, pulls_trigger, touches_register};
+use crate::holders::{Shared, shares};
 use crate::rows::holder_of;
 use tables::Part;
 
@@ -26,10 +26,10 @@ fn first_shared<F: Fn(usize) -> Option<u32>>(most: usize, sharing: F) -> Option<
 }
 
 // A variable before v that has this bit too.
-fn bit_sharer(variables: &[u32], v: u32, part: Part, bit: usize) -> Option<u32>
+pub fn bit_sharer(variables: &[u32], v: u32, part: Part, bit: usize) -> Option<u32>
     ensures { result ≡ first v (share_bit variables.now v part bit) }
 {
-    (0..v).find(|&u| holds_bit(variables, part, bit, v) & holds_bit(variables, part, bit, u))
+    (0..v).find(|&u| shares(variables, v, part, Shared::Bit, bit, u))
 }
 
 // Rule 14: the first bit that variable v shares with an earlier one, and the first such variable.
@@ -40,14 +40,10 @@ pub fn shared_bit(variables: &[u32], v: u32, part: Part) -> Option<(usize, u32)>
 }
 
 // A variable before v that has bits in this register too, one of the two being a trigger.
-fn register_sharer(variables: &[u32], v: u32, part: Part, register: usize) -> Option<u32>
+pub fn register_sharer(variables: &[u32], v: u32, part: Part, register: usize) -> Option<u32>
     ensures { result ≡ first v (share_register variables.now v part register) }
 {
-    (0..v).find(|&u| {
-        touches_register(variables, part, register, v)
-            & touches_register(variables, part, register, u)
-            & (pulls_trigger(variables, part, v) | pulls_trigger(variables, part, u))
-    })
+    (0..v).find(|&u| shares(variables, v, part, Shared::Register, register, u))
 }
 
 // Rule 15: the first register that variable v shares so with an earlier one, and the first such variable.

@@ -14,7 +14,7 @@ fn goes_past(step: Step, place: usize) -> bool
 {
     match step {
         Ok(_) => true,
-        Err(refusal) => (refusal.number() != 4) | (refusal.place != place),
+        Err(refusal) => (refusal.number != 4) | (refusal.place != place),
     }
 }
 

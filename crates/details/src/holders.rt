@@ -1,9 +1,9 @@
-// Which variable holds a bit, or has one in a register.
+// Which variable holds a bit, or has one in a register, and what two of them share.
 ghost use Rattle.std.specs.Prelude.{◌≡◌, ◌+◌, ◌*◌, ◌-◌, ◌<◌, ◌≤◌, ◌^◌, length, IfSome};
 ghost use Rattle.tables.specs.Marks.{has};
 ghost use Rattle.tables.specs.Tables.{piece_in, piece_bits, variable_part_of};
 ghost use Rattle.tables.specs.View.{part_no};
-ghost use Rattle.details.specs.Holders.{holds, behind, weight_in, Few, touches, mentioned_below, pulls};
+ghost use Rattle.details.specs.Holders.{holds, behind, weight_in, Few, touches, mentioned_below, pulls, share_in};
 
 use crate::entries::{piece_at, piece_count, piece_of, variable_word};
 use tables::Part;
@@ -95,4 +95,27 @@ pub fn pulls_trigger(variables: &[u32], part: Part, v: u32) -> bool
     ensures { result ≡ pulls variables.now part v }
 {
     variable_word(variables, v, part, 1) == 1
+}
+
+// What two variables may not share in a part: a bit (rule 14); a register, where one of the two is trigger (rule 15).
+#[derive(Clone, Copy)]
+pub enum Shared {
+    Bit,
+    Register,
+}
+
+// Do two variables share this bit or this register?
+pub fn shares(variables: &[u32], v: u32, part: Part, shared: Shared, number: usize, u: u32) -> bool
+    ensures { result ≡ share_in variables.now v part shared number u }
+{
+    match shared {
+        Shared::Bit => {
+            holds_bit(variables, part, number, v) & holds_bit(variables, part, number, u)
+        }
+        Shared::Register => {
+            touches_register(variables, part, number, v)
+                & touches_register(variables, part, number, u)
+                & (pulls_trigger(variables, part, v) | pulls_trigger(variables, part, u))
+        }
+    }
 }

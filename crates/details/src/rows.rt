@@ -2,7 +2,7 @@
 // register.
 ghost use Rattle.std.specs.Prelude.{◌≡◌, ◌+◌, ◌-◌, ◌≤◌, ◌^◌, not, IfSome};
 ghost use Rattle.details.specs.Search.{first};
-ghost use Rattle.details.specs.Rows.{holder_of, weight_of, weight_at, together, run_below, same_bit, same_holders, same_register};
+ghost use Rattle.details.specs.Rows.{holder_of, weight_held, weight_of, together, run_below, same_bit, same_holders, same_register};
 
 use crate::entries::{alike_words, count_of, register_part};
 use crate::holders::{holds_bit, weight_in};
@@ -16,9 +16,9 @@ pub fn holder_of(variables: &[u32], part: Part, i: u32, b: u32) -> Option<u32>
     (0..count_of(variables)).find(|&v| holds_bit(variables, part, number, v))
 }
 
-// The weight that it has in that variable.
-pub fn weight_of(variables: &[u32], part: Part, i: u32, b: u32) -> Option<usize>
-    ensures is { result ≡ weight_of variables.now part i b }
+// The weight that it has in that variable, if one holds it.
+pub fn weight_held(variables: &[u32], part: Part, i: u32, b: u32) -> Option<usize>
+    ensures is { result ≡ weight_held variables.now part i b }
     ensures small { IfSome result (λ weight. weight + 2 ^ 32 ≤ 2 ^ 64) }
 {
     let v = holder_of(variables, part, i, b)?;
@@ -27,8 +27,8 @@ pub fn weight_of(variables: &[u32], part: Part, i: u32, b: u32) -> Option<usize>
 
 // The same as a number, by which two bits are compared: where no variable holds the bit, what the words behind the last
 // variable say, which loading leaves 0.
-fn weight_at(variables: &[u32], part: Part, i: u32, b: u32) -> usize
-    ensures is { result ≡ weight_at variables.now part i b }
+pub fn weight_of(variables: &[u32], part: Part, i: u32, b: u32) -> usize
+    ensures is { result ≡ weight_of variables.now part i b }
     ensures small { result + 2 ^ 32 ≤ 2 ^ 64 }
 {
     let v = holder_of(variables, part, i, b).unwrap_or(count_of(variables));
@@ -39,8 +39,8 @@ fn weight_at(variables: &[u32], part: Part, i: u32, b: u32) -> usize
 fn are_together(variables: &[u32], part: Part, i: u32, a: u32, b: u32) -> bool
     ensures { result ≡ together variables.now part i a b }
 {
-    let high = weight_at(variables, part, i, a);
-    let low = weight_at(variables, part, i, b);
+    let high = weight_of(variables, part, i, a);
+    let low = weight_of(variables, part, i, b);
     (holder_of(variables, part, i, b) == holder_of(variables, part, i, a))
         & (low + a as usize == high + b as usize)
 }
@@ -71,7 +71,7 @@ fn same_bit(variables: &[u32], i: u32, b: u32) -> bool
     ensures { result ≡ same_bit variables.now i b }
 {
     (holder_of(variables, Part::Read, i, b) == holder_of(variables, Part::Write, i, b))
-        & (weight_at(variables, Part::Read, i, b) == weight_at(variables, Part::Write, i, b))
+        & (weight_of(variables, Part::Read, i, b) == weight_of(variables, Part::Write, i, b))
 }
 
 fn same_holders(variables: &[u32], i: u32) -> bool

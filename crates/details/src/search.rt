@@ -40,7 +40,7 @@ fn clashes_with(registers: &[u32], i: u32, part: Part, j: u32) -> bool
     let earlier = register_part(j, part);
     clashes(
         registers,
-        part,
+        part.number(),
         register_part(i, part),
         port,
         offset,

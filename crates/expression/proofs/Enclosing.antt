@@ -1,7 +1,6 @@
 -- The laws of an operand, at what the code knows of its first token and of the depth that is left. Assumes nothing.
 use Rattle.std.proofs.Common.{◌≡◌, ℕ, ◌-◌, ◌≤◌, ◌⊎◌, List, sym, ap, ◌∙◌, pos, Option, Some, None, Result, Ok, Err, arith}
 use Rattle.std.specs.Prelude.{SomeIff, ok_or}
-use Rattle.token.specs.declared.Reason.TheVariants.{TooMuch}
 use Rattle.token.specs.declared.Refusal.{Refusal}
 use Rattle.token.specs.declared.Scanned.{Scanned}
 use Rattle.token.specs.Scan.{scan_at}
@@ -26,12 +25,13 @@ module _ (text : List ℕ) (depth at : ℕ) {found : Scanned} (is : found ≡ sc
     none-left e = let not : SomeIff None (1 ≤ depth) (depth - 1) = rw e at less in omega (arith, not)
 
     pub deep-read :
-        {place : ℕ} {refusal : Refusal} → (opening_of found.token ≡ Minus) ⊎ (opening_of found.token ≡ Paren) → left ≡ None
-        → place ≡ place_of found.token → Err refusal ≡ ok_or left (record { why = TooMuch; place = place }) → Err refusal ≡ operand_at text depth at
-    deep-read {place} {refusal} o e p r =
-        let same : ◌≡◌ {A = Result ℕ Refusal} (Err refusal) (Err (record { why = TooMuch; place = place })) = rw e at r in
-        let refused : refusal ≡ record { why = TooMuch; place = place } = cc in
-        ap Err (refused ∙ rw (p, is)) ∙ sym (operand-deep text depth at (none-left e) (rw (← is) o))
+        {number place : ℕ} {refusal : Refusal} → (opening_of found.token ≡ Minus) ⊎ (opening_of found.token ≡ Paren) → left ≡ None
+        → number ≡ 5 → place ≡ place_of found.token → Err refusal ≡ ok_or left (record { number = number; place = place })
+        → Err refusal ≡ operand_at text depth at
+    deep-read {number} {place} {refusal} o e n p r =
+        let same : ◌≡◌ {A = Result ℕ Refusal} (Err refusal) (Err (record { number = number; place = place })) = rw e at r in
+        let refused : refusal ≡ record { number = number; place = place } = cc in
+        ap Err (refused ∙ rw (n, p, is)) ∙ sym (operand-deep text depth at (none-left e) (rw (← is) o))
 
     module _ {inner : ℕ} (some : left ≡ Some inner) where
       both : SomeIff (Some inner) (1 ≤ depth) (depth - 1)

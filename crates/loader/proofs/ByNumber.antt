@@ -6,11 +6,14 @@ use mathlib.Core.Path.{◌≡◌, sym, ap}
 use mathlib.Core.Bool.{false, false≢true}
 use mathlib.Core.Logic.{◌↔◌, inl, inr}
 use mathlib.Core.List.{List}
+use Rattle.syntax.specs.Step.{refused_at}
+use Rattle.syntax.specs.Claim.{Right}
 use Rattle.tables.specs.View.{Tables}
 use Rattle.std.specs.Prelude.{Ok, Err}
 use Rattle.loader.specs.Verdict.{Verdict, accepted, refused}
 use Rattle.loader.specs.Load.{is_accepted, is_short, is_long, load_of}
-use Rattle.loader.specs.Claim.{Accepts, Unread, Breaks, Misses, RightRead, RightVerdict}
+use Rattle.loader.specs.Claim.{Accepts, Breaks, Misses, RightRead, RightVerdict}
+use Rattle.loader.proofs.Numbers.{reading-number}
 use Rattle.loader.proofs.Exactly.{loads-exactly}
 
 abbrev number_in : Verdict → ℕ
@@ -45,14 +48,19 @@ module _ (text : List ℕ) (t : Tables) where
       by (inr (inl (a, b, z))) = absurd (false≢true (sym (ap is_accepted z)))
       by (inr (inr (a, b, h))) = ((a, b), h)
 
-  pub unread-exactly : (number place : ℕ) → (((load_of text t).verdict ≡ refused number place) × (3 ≤ number) × (number ≤ 5)) ↔ (Fits × Unread text number place)
+  pub unread-exactly : (number place : ℕ) → (((load_of text t).verdict ≡ refused number place) × (3 ≤ number) × (number ≤ 5)) ↔ (Fits × Right text (refused_at number place))
   unfolding RightRead
-  unread-exactly number place = (λ h. let f = from-three number place h.1 h.0 in (f.0, by h.2 f.1), λ h. (given (refused number place) h.0 (inl h.1), h.1.least, h.1.most))
+  unread-exactly number place = (λ h. let f = from-three number place h.1 h.0 in (f.0, by h.2 f.1), back)
     where
-      by : number ≤ 5 → RightRead text (refused number place) → Unread text number place
-      by m (inl u) = u
+      by : number ≤ 5 → RightRead text (refused number place) → Right text (refused_at number place)
+      by m (inl u) = u.stops
       by m (inr (inl b)) = absurd (omega (arith, b.1.least))
       by m (inr (inr b)) = absurd (omega (arith, b.is_sixteen))
+
+      back : Fits × Right text (refused_at number place) → ((load_of text t).verdict ≡ refused number place) × (3 ≤ number) × (number ≤ 5)
+      back h =
+          let n = reading-number text number place h.1 in
+          (given (refused number place) h.0 (inl (record { least = n.0; most = n.1; stops = h.1 })), n.0, n.1)
 
   pub broken-exactly : (number place : ℕ) → (((load_of text t).verdict ≡ refused number place) × (6 ≤ number) × (number ≤ 15)) ↔ (Fits × Breaks text number place)
   unfolding RightRead

@@ -9,7 +9,7 @@ use mathlib.Core.List.{List}
 use lib.Dec.{ltb}
 use lib.ListN.{get_or}
 use borrow.Author.Tests.{ltb-true, ltb-false, lt-ltb, le-ltb, not-true, not-false}
-use Rattle.syntax.specs.Step.{Step}
+use Rattle.syntax.specs.Step.{Step, refused_at}
 use Rattle.syntax.specs.Claim.{Right}
 use Rattle.syntax.specs.Text.{Declaration, reading, remade}
 use Rattle.syntax.proofs.Answers.{answers-exactly, reads-exactly}
@@ -20,7 +20,6 @@ use Rattle.rules.specs.Fault.{is_fault}
 use Rattle.rules.specs.State.{State}
 use Rattle.std.specs.Prelude.{Option, Some, None, Ok, Err}
 use Rattle.token.specs.declared.Refusal.{Refusal}
-use Rattle.token.specs.Kind.{number_of}
 use Rattle.loader.specs.Verdict.{Verdict, accepted, refused}
 use Rattle.loader.specs.Load.{Loaded, judged, judged_as, is_accepted, left_by, laid_over, first_uncovered, once_read, verdict_of, is_short, is_long, load_of}
 use Rattle.loader.specs.Claim.{declared, tally, one_parameter, one_register, one_variable, Reads, standing, AllKeep, mapped, AllMapped, FirstUnmapped, Unread, RightRead, RightVerdict, Leaves}
@@ -84,8 +83,8 @@ module _ (text : List ℕ) where
   unfolding Right
   reads_at end e = let r = (answers-exactly text (Ok end)).0 e in (r.1, r.2)
 
-  unread : (stop : Refusal) → Right text (Err stop) → Unread text (number_of stop.why) stop.place
-  unread stop r = let n = reading-number stop.why in record { least = n.0; most = n.1; why = stop.why; number_is = refl; stops = r }
+  unread : (stop : Refusal) → Right text (Err stop) → Unread text stop.number stop.place
+  unread stop r = let n = reading-number text stop.number stop.place r in record { least = n.0; most = n.1; stops = r }
 
   -- the tables count what the text declares
   record Counts : Type 0 where
@@ -130,9 +129,7 @@ module _ (text : List ℕ) where
   -- ---- and no other is
   only-verdict : (v : Verdict) → RightRead text v → verdict_of (judged text) ≡ v
   unfolding RightRead once_read
-  only-verdict (Err x) (inl r) =
-      by_tests last.fault ((answers-exactly text (Err (record { why = r.why; place = x.place }))).1 r.stops) refl refl
-      ∙ ap (λ (n : ℕ). refused n x.place) (sym r.number_is)
+  only-verdict (Err x) (inl r) = by_tests last.fault ((answers-exactly text (refused_at x.number x.place)).1 r.stops) refl refl
   only-verdict (Err x) (inr (inl b)) = by_tests (Some (record { number = x.number; place = x.place })) ((reads-exactly text).1 b.0) (broken-fault text all x.number x.place b.1) refl
   only-verdict (Err x) (inr (inr m)) =
       let u = m.misses in

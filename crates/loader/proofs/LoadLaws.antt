@@ -25,7 +25,6 @@ use Rattle.loader.specs.declared.heading.Loading.{Loading}
 use Rattle.std.specs.Prelude.{Option, Some, None, Ok, Err}
 use Rattle.std.specs.Result.{is_err}
 use Rattle.token.specs.declared.Refusal.{Refusal}
-use Rattle.token.specs.Kind.{number_of}
 use Rattle.loader.specs.Verdict.{Verdict, refused}
 use Rattle.loader.specs.Judge.{judge, progress_of, at_start, moved_by}
 use Rattle.loader.specs.Ready.{Ready}
@@ -112,7 +111,7 @@ uncovered-is p ready e z =
 
 -- the verdict, over what the calls answered
 module _ (text : List ℕ) (all : Loading) (ps rs vs : List ℕ) (read : progress_of all ps rs vs ≡ judged text) where
-  pub verdict-unread : {refusal : Refusal} → all.step ≡ Err refusal → refused (number_of refusal.why) refusal.place ≡ verdict_of (judged text)
+  pub verdict-unread : {refusal : Refusal} → all.step ≡ Err refusal → refused refusal.number refusal.place ≡ verdict_of (judged text)
   unfolding verdict_of progress_of once_read
   verdict-unread e = rw (← read, e)
 

@@ -5,16 +5,19 @@ use native.Mathlib.Omega.{arith}
 use native.Mathlib.Nat.{min-eq_left, min-eq_right, le_of_lt}
 use mathlib.Core.Path.{◌≡◌, refl, sym, ap, ◌∙◌}
 use mathlib.Core.Bool.{Bool, true, false, ◌&&◌, ◌||◌, cond}
+use mathlib.Core.Logic.{inl, inr}
 use mathlib.Core.List.{List, [], ◌∷◌, foldl}
 use lib.Dec.{eqb, leb}
 use borrow.Author.Tests.{leb-true, leb-false}
 use Rattle.std.specs.Prelude.{Option, Some, None}
-use Rattle.token.specs.declared.Reason.{Reason}
-use Rattle.token.specs.declared.Reason.TheVariants.{NoToken, Unexpected, TooMuch}
-use Rattle.token.specs.Kind.{number_of}
+use Rattle.token.specs.declared.Token.{Token}
+use Rattle.token.specs.declared.Token.TheVariants.{Name, Word, Number, Bits, Sign, End, Bad}
+use Rattle.token.specs.Kind.{refused_as}
+use Rattle.syntax.specs.Step.{refused_at}
 use Rattle.syntax.specs.declared.register.Register.{Register}
 use Rattle.syntax.specs.Parameter.{ParameterRead}
 use Rattle.syntax.specs.Variable.{VariableRead}
+use Rattle.syntax.specs.Claim.{token_no, Right}
 use Rattle.syntax.specs.Text.{Declaration, a_device, a_parameter, a_register, a_variable}
 use Rattle.bits.specs.Widths.{is_width}
 use Rattle.tables.specs.Rules.{ranges_fit, parameter_fault, placed, place_taken, width_kept, register_fault, part_maps, type_fits, volatile_fits, own_fault, mapped_before, trigger_shared, variable_fault}
@@ -33,10 +36,21 @@ use Rattle.loader.specs.Load.{beginning}
 use Rattle.loader.specs.Claim.{standing}
 
 -- ---- 3 to 5
-pub reading-number : (why : Reason) → (3 ≤ number_of why) × (number_of why ≤ 5)
-reading-number NoToken = (omega arith, omega arith)
-reading-number Unexpected = (omega arith, omega arith)
-reading-number TooMuch = (omega arith, omega arith)
+token-number : (t : Token) → (3 ≤ refused_as t) × (refused_as t ≤ 5)
+token-number (Name p n) = (omega arith, omega arith)
+token-number (Word p n) = (omega arith, omega arith)
+token-number (Number p v) = (omega arith, omega arith)
+token-number (Bits p n) = (omega arith, omega arith)
+token-number (Sign p s) = (omega arith, omega arith)
+token-number (End p) = (omega arith, omega arith)
+token-number (Bad p) = (omega arith, omega arith)
+
+pub reading-number : (text : List ℕ) (number place : ℕ) → Right text (refused_at number place) → (3 ≤ number) × (number ≤ 5)
+unfolding Right
+reading-number text number place (inl r) =
+    let t = token-number (token_no text r.0.token) in
+    (omega (arith, r.0.number_is, t.0), omega (arith, r.0.number_is, t.1))
+reading-number text number place (inr r) = (omega (arith, r.is-five), omega (arith, r.is-five))
 
 -- ---- 6 to 15, or 0 for none
 unfoldable ruled : ℕ → Bool

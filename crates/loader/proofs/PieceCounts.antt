@@ -70,27 +70,27 @@ module _ (text : List ℕ) where
   unfolding pieces_after
   pieces-some table s = items-some (piece_after text) 291 piece-some 0 table s (omega arith)
 
-  marked-second : (mark : ℕ) (table : List ℕ) (s : Step) → Second (second_marked text mark table s).tail.value
+  marked-second : (mark : ℕ) (table : List ℕ) (s : Step) → Second (second_marked text mark table s).tail
   unfolding second_marked
   marked-second mark table s = by (eqb (seen_at text s).kind 533) refl
     where
-      by : (b : Bool) → eqb (seen_at text s).kind 533 ≡ b → Second (second_marked text mark table s).tail.value
+      by : (b : Bool) → eqb (seen_at text s).kind 533 ≡ b → Second (second_marked text mark table s).tail
       by true e = rw e (inl refl, omega arith)
       by false e = let all = pieces-some table s in rw e (inr all.0, all.1)
 
-  after-second : (table : List ℕ) (s : Step) → Second (second_after text table s).tail.value
+  after-second : (table : List ℕ) (s : Step) → Second (second_after text table s).tail
   unfolding second_after
   after-second table s = by (eqb (seen_at text s).kind 538) refl
     where
-      by : (b : Bool) → eqb (seen_at text s).kind 538 ≡ b → Second (second_after text table s).tail.value
+      by : (b : Bool) → eqb (seen_at text s).kind 538 ≡ b → Second (second_after text table s).tail
       by true e = rw e (inl refl, omega arith)
       by false e = rw e (marked-second _ table _)
 
-  rest-second : (table : List ℕ) (s : Step) → Second (rest_after text table s).tail.value
+  rest-second : (table : List ℕ) (s : Step) → Second (rest_after text table s).tail
   unfolding rest_after
   rest-second table s = by (eqb (seen_at text s).kind 300) refl
     where
-      by : (b : Bool) → eqb (seen_at text s).kind 300 ≡ b → Second (rest_after text table s).tail.value
+      by : (b : Bool) → eqb (seen_at text s).kind 300 ≡ b → Second (rest_after text table s).tail
       by true e = rw e (after-second table _)
       by false e = rw e (inl refl, omega arith)
 

@@ -4,8 +4,7 @@
 use Rattle.std.specs.Prelude.{ℕ, ◌+◌, ◌≤◌, ◌<◌, ◌≡◌, ◌⊎◌, Option, Some, None, Ok, Err, Bool, true, false, ◌&&◌, get_or}
 use mathlib.Core.List.{List, [], ◌∷◌, ◌++◌, foldl}
 use Rattle.std.proofs.Math.Option.{none}
-use Rattle.token.specs.declared.Reason.{Reason}
-use Rattle.token.specs.Kind.{number_of}
+use Rattle.syntax.specs.Step.{refused_at}
 use Rattle.syntax.specs.Sizes.{passed_at}
 use Rattle.syntax.specs.Claim.{InLanguage, Right}
 use Rattle.syntax.specs.Text.{Declaration, a_device, a_parameter, a_register, a_variable, reading}
@@ -110,9 +109,7 @@ pub record Accepts (text : List ℕ) (parameters registers variables : ℕ) : Ty
 pub record Unread (text : List ℕ) (number place : ℕ) : Type 0 where
   pub least : 3 ≤ number
   pub most : number ≤ 5
-  pub why : Reason
-  pub number_is : number ≡ number_of why
-  pub stops : Right text (Err (record { why = why; place = place }))
+  pub stops : Right text (refused_at number place)
 
 -- 6 to 15: the first declaration that breaks a rule names it
 abbrev pub Breaks : List ℕ → ℕ → ℕ → Type 0

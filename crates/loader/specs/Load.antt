@@ -2,7 +2,6 @@
 use Rattle.std.specs.Prelude.{ℕ, ◌≡◌, Option, Some, None, Ok, Err, Bool, true, false, ◌&&◌, ◌||◌, not, cond, ltb, length, get_or, drop, replicate}
 use mathlib.Core.List.{List, [], ◌∷◌, foldl, ◌++◌}
 use Rattle.std.proofs.Math.Option as number
-use Rattle.token.specs.Kind.{number_of}
 use Rattle.syntax.specs.Step.{Step}
 use Rattle.syntax.specs.Text.{Progress, reading, remade}
 use Rattle.tables.specs.Every.{first_of}
@@ -65,7 +64,7 @@ judged_as None uncovered ps rs vs =
 
 -- 3 to 5 come first: only when the whole text reads, the rules
 unfoldable pub once_read : Step → Verdict → Verdict
-once_read (Err refusal) verdict = refused (number_of refusal.why) refusal.place
+once_read (Err refusal) verdict = refused refusal.number refusal.place
 once_read (Ok next) verdict = verdict
 
 unfoldable pub verdict_of : Progress State → Verdict

@@ -1,6 +1,5 @@
 // What loading answers: the counts of what a text declares, or the refusal that it meets.
 ghost use Rattle.std.specs.Prelude.{◌≡◌};
-ghost use Rattle.token.specs.Kind.{number_of};
 
 use rules::Fault;
 use token::Refusal;
@@ -34,11 +33,11 @@ pub const LONG: Refused = Refused {
 
 // 3 to 5: what stopped the reading.
 impl From<Refusal> for Refused {
-    ghost from_gives = { λ r refused. refused ≡ record { number = number_of r.why; place = r.place } };
+    ghost from_gives = { λ r refused. refused ≡ record { number = r.number; place = r.place } };
 
     fn from(refusal: Refusal) -> Refused {
         Refused {
-            number: u32::from(refusal.number()),
+            number: u32::from(refusal.number),
             place: refusal.place,
         }
     }

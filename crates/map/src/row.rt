@@ -96,8 +96,8 @@ fn show_held(
 ) -> io::Result<u32> {
     let variables = device.variables;
     let run = run_below(variables, i, part, left).min(left.saturating_sub(lowest));
-    let high = weight_of(variables, part, i, left.saturating_sub(1)).unwrap_or(0);
-    let low = weight_of(variables, part, i, left.saturating_sub(run)).unwrap_or(0);
+    let high = weight_of(variables, part, i, left.saturating_sub(1));
+    let low = weight_of(variables, part, i, left.saturating_sub(run));
     let whole = run as usize == variable_width(variables, v);
     let name = Entry::Variable.name(device.text, variables, v);
     show_cell(out, name, whole, high, low, cell_columns(run))?;

@@ -1,11 +1,12 @@
 -- What the code of the two calls cites. Assumes nothing.
-use Prim.Native.Nat.{ℕ, ◌-◌, ◌+◌, ◌-◌, ◌≤◌}
-use mathlib.Core.Path.{◌≡◌, sym, ◌∙◌}
+use Prim.Native.Nat.{ℕ, ◌+◌, ◌≤◌, ◌<◌}
+use mathlib.Core.Path.{◌≡◌, sym, ap, ◌∙◌}
 use mathlib.Core.Bool.{Bool, false}
-use mathlib.Core.List.{List, ◌++◌, append_assoc}
+use mathlib.Core.List.{List, ◌++◌}
+use native.Mathlib.Numerals.{add-one}
 use native.Mathlib.Omega.{arith}
-use lib.ListN.{length, take, drop}
-use lib.Seq.{drop-drop}
+use lib.ListN.{length, take, drop, set, get_or}
+use lib.Seq.{take-length, paste, paste-suc}
 use borrow.Author.Tests.{le-ltb}
 use Rattle.tables.specs.View.{Tables}
 use Rattle.loader.specs.Verdict.{Verdict}
@@ -13,13 +14,17 @@ use Rattle.loader.specs.Load.{loaded, load_of}
 use Rattle.pieces.specs.Pieces.{more, held_as, took_as, is_short_for, passes, laid_at, ended_as, piece_of, end_of}
 use Rattle.pieces.proofs.Holding.{room}
 
--- a piece laid behind what is taken
-pub laid-is : (store piece : List ℕ) (taken : ℕ) {part : List ℕ} → part ≡ piece
-    → take taken store ++ (part ++ drop (taken + length piece - taken) (drop taken store)) ≡ laid_at store taken piece
+-- a turn of the loop that lays a piece
+pub laid-turn : (store now piece : List ℕ) (taken i : ℕ) → taken + length piece ≤ length store → i < length piece → now ≡ paste store taken piece i
+    → set now (taken + i) (get_or piece i 0) ≡ paste store taken piece (i + 1)
+laid-turn store now piece taken i room more is =
+    ap (λ (l : List ℕ). set l (taken + i) (get_or piece i 0)) is ∙ paste-suc store taken piece i 0 (omega arith) more ∙ ap (paste store taken piece) (sym (add-one i))
+
+pub laid-all : (store now piece : List ℕ) (taken i : ℕ) → i ≤ length piece → length piece ≤ i → now ≡ paste store taken piece i → now ≡ laid_at store taken piece
 unfolding laid_at
-laid-is store piece taken e =
-    let m : taken + length piece - taken ≡ length piece = omega arith in
-    rw (e, m, drop-drop (length piece) taken store, append_assoc)
+laid-all store now piece taken i few all is =
+    let end : i ≡ length piece = omega arith in
+    is ∙ ap (paste store taken piece) end ∙ ap (λ (l : List ℕ). take taken store ++ l ++ drop (taken + length piece) store) (take-length piece)
 
 -- a piece that was laid
 pub took-is : (t : Tables) (store piece : List ℕ) (taken : ℕ) {after : List ℕ} {short : Bool} → short ≡ is_short_for t (length store) → short ≡ false → taken + length piece ≤ 8192

@@ -3,9 +3,9 @@
 // the limit says that the text was too long, so every number that a caller lends has a meaning.
 #![tactic(auto)]
 
-ghost use Rattle.std.specs.Prelude.{◌≡◌, length};
+ghost use Rattle.std.specs.Prelude.{◌≡◌, ◌+◌, ◌≤◌, length};
 ghost use Rattle.loader.specs.Load.{lent_as};
-ghost use Rattle.pieces.specs.Pieces.{is_short_for, held_as, took_as, ended_as, piece_of, end_of};
+ghost use Rattle.pieces.specs.Pieces.{is_short_for, held_as, took_as, ended_as, laid_at, piece_of, end_of};
 
 use loader::{Counts, LONG, Refused, SHORT};
 
@@ -29,6 +29,17 @@ fn is_short(store: &[u8], parameters: &[u32], registers: &[u32], variables: &[u3
     ensures { result ≡ is_short_for (lent_as parameters.now registers.now variables.now) (length store.now) }
 {
     loader::is_short(parameters, registers, variables) || store.len() < 8192
+}
+
+// Lays a piece behind what is taken. A store for each byte: a copy of a slice would be a call of memmove, which the
+// archive for C does not need otherwise.
+fn lay(store: &mut [u8], taken: usize, piece: &[u8])
+    requires { taken + length piece.now ≤ length store.old }
+    ensures { store.new ≡ laid_at store.old taken piece.now }
+{
+    for i in 0..piece.len() {
+        store[taken + i] = piece[i];
+    }
 }
 
 // Takes a piece of any length. The tables are lent for their lengths alone.
@@ -57,7 +68,7 @@ pub fn take_piece(
         };
     }
     let end = taken + piece.len();
-    store[taken..end].copy_from_slice(piece);
+    lay(store, taken, piece);
     Taken {
         reply: Ok(()),
         taken: end,

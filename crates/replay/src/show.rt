@@ -6,12 +6,14 @@ use std::io;
 use tables::Part;
 use tables::words::word;
 
-// A number of a register as hexadecimal digits: two for every eight bits of its width.
+// A number of a register as hexadecimal digits: two for every eight bits of its width. They are written at once, as
+// standard output has no buffer, and `{:02X}` writes the zeros in front on their own.
 fn show_hex(out: &mut impl io::Write, number: u32, width: usize) -> io::Result<()> {
+    let digits = script::digits_of(u64::from(number));
     match width {
-        ..=8 => write!(out, "{:02X}", number % 256),
-        9..=16 => write!(out, "{:04X}", number % 65536),
-        _ => write!(out, "{number:08X}"),
+        ..=8 => out.write_all(&digits[14..]),
+        9..=16 => out.write_all(&digits[12..]),
+        _ => out.write_all(&digits[8..]),
     }
 }
 
@@ -34,16 +36,15 @@ fn register_width(registers: &[u32], register: usize) -> usize {
 }
 
 fn access(out: &mut impl io::Write, offered: Access, parameters: &[u32]) -> io::Result<()> {
-    let direction = match offered.direction {
-        Part::Read => "read",
-        Part::Write => "write",
-    };
     let Access {
         parameter,
         offset,
         ..
     } = offered;
-    write!(out, "offer {direction} {parameter} {offset} 0x")?;
+    match offered.direction {
+        Part::Read => write!(out, "offer read {parameter} {offset} 0x")?,
+        Part::Write => write!(out, "offer write {parameter} {offset} 0x")?,
+    }
     show_hex(out, offered.byte, port_width(parameters, parameter))
 }
 
@@ -64,7 +65,9 @@ fn answer(out: &mut impl io::Write, given: Answer, parameters: &[u32]) -> io::Re
 fn told(out: &mut impl io::Write, given: InUnits, parameters: &[u32]) -> io::Result<()> {
     match given {
         InUnits::Reading { value, accesses } => {
-            writeln!(out, "done {:016X} {accesses}", units::bits_of(value))
+            out.write_all(b"done ")?;
+            out.write_all(&script::digits_of(units::bits_of(value)))?;
+            writeln!(out, " {accesses}")
         }
         InUnits::Stopped(number) => writeln!(out, "refused {number}"),
         InUnits::Same(same) => answer(out, same, parameters),

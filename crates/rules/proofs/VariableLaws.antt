@@ -15,11 +15,7 @@ use Rattle.tables.specs.Tables.{count_of, variable_at, variable_part}
 use Rattle.tables.specs.Scan.{Mapped, enters_of}
 use Rattle.tables.specs.Marks.{marks}
 use Rattle.rules.specs.Words.{word_of, written}
-use Rattle.rules.specs.Lists.{list_no, part_words}
-use Rattle.rules.specs.declared.lists.Given.{Given}
-use Rattle.rules.specs.declared.lists.Given.TheVariants.{First, Second}
-use Rattle.std.specs.Option.{is_none}
-use Rattle.std.specs.Prelude.{Some, None}
+use Rattle.rules.specs.Lists.{part_words}
 use Rattle.syntax.specs.Variable.{VariableRead}
 use Rattle.std.specs.Prelude.{Option}
 use Rattle.rules.specs.declared.fault.Fault.{Fault}
@@ -85,11 +81,6 @@ mapped_at rs t other {v = v} few is none e m r w =
     rw (← e) (mapped-more rs t v few (own-none rs t v (lowest-none (variable_fault rs t v) other (sym is ∙ none))) m r w)
 
 -- ---- the judging, call by call
-pub none-is : (given : Option Given) → is_none given ≡ eqb (list_no given) 0
-none-is None = refl
-none-is (Some First) = refl
-none-is (Some Second) = refl
-
 module _ (text : List ℕ) (j : Judging) (ps rs vs : List ℕ) (d : Variable) (first second : List ℕ) where
   abbrev before : State
   before = state_of j ps rs vs
@@ -98,11 +89,11 @@ module _ (text : List ℕ) (j : Judging) (ps rs vs : List ℕ) (d : Variable) (f
   it = read_of d first second
 
   -- what breaks before there is an entry
-  pub early-is : (read write : Option Given) {names unpaired fault : Option Fault} → names ≡ name_fault text before it
-      → list_no read ≡ list_of text before it 0 → list_no write ≡ list_of text before it 1
-      → unpaired ≡ fault_if (is_none read && is_none write) 11 d.place → fault ≡ or_else names unpaired → fault ≡ early_fault text before it
+  pub early-is : {names unpaired fault : Option Fault} {read write : ℕ} → names ≡ name_fault text before it
+      → read ≡ list_of text before it 0 → write ≡ list_of text before it 1
+      → unpaired ≡ fault_if (eqb read 0 && eqb write 0) 11 d.place → fault ≡ or_else names unpaired → fault ≡ early_fault text before it
   unfolding early_fault state_of read_of
-  early-is read write n r w u e = rw (e, u, none-is read, none-is write, r, w, n)
+  early-is n r w u e = rw (e, u, r, w, n)
 
   module _ {early : Early} (e : EarlyOf text before it early) where
     pub judged-early : is_fault early.fault ≡ true → state_of (with_fault j ps rs vs early.fault) ps rs vs ≡ judge_variable text before it
@@ -110,8 +101,8 @@ module _ (text : List ℕ) (j : Judging) (ps rs vs : List ℕ) (d : Variable) (f
     judged-early z = rw (← e.fault, z)
 
     pub judged-late : {t : List ℕ} {late : Option Fault} → is_fault early.fault ≡ false
-        → t ≡ with_variable vs d early.firsts early.seconds (list_no early.read) (list_no early.write)
-        → late ≡ fault_of (lowest (variable_fault rs t (count_of vs)) (cond (bad_behaviours d.rest.behaviours (list_no early.read) (list_no early.write)) 13 0)) d.place
+        → t ≡ with_variable vs d early.firsts early.seconds early.read early.write
+        → late ≡ fault_of (lowest (variable_fault rs t (count_of vs)) (cond (bad_behaviours d.rest.behaviours early.read early.write) 13 0)) d.place
         → state_of (with_fault j ps rs vs late) ps rs t ≡ judge_variable text before it
     unfolding judge_variable unless_broken added_variable with_variables state_of read_of late_number
     judged-late z t l = rw (← e.fault, z, l, t, e.read, e.write, e.firsts, e.seconds)

@@ -13,7 +13,7 @@ use Rattle.rules.specs.Words.{word_of, written}
 use Rattle.rules.specs.State.{State, unless_broken, with_variables}
 use Rattle.rules.specs.Modifiers.{at_most_one}
 use Rattle.rules.specs.Names.{declared_before, Fresh}
-use Rattle.rules.specs.Lists.{unknown_in, pieces_of, list_no, list_for, part_words}
+use Rattle.rules.specs.Lists.{unknown_in, pieces_of, list_for, part_words}
 
 -- ── the entry ──
 
@@ -81,8 +81,8 @@ module _ (text : List ℕ) (s : State) (it : VariableRead) where
   -- what the code holds of it: the same, with the lists that give the parts, and the pieces of the lists
   pub record EarlyOf (early : Early) : Type 0 where
     pub fault : early.fault ≡ early_fault
-    pub read : list_no early.read ≡ list_of 0
-    pub write : list_no early.write ≡ list_of 1
+    pub read : early.read ≡ list_of 0
+    pub write : early.write ≡ list_of 1
     pub firsts : early.firsts ≡ first_pieces
     pub seconds : early.seconds ≡ second_pieces
 

@@ -21,7 +21,7 @@ pub enum Given {
 }
 
 // A number of a list that was read; 0 past its end.
-fn item(list: &[usize], at: usize) -> usize
+pub fn item(list: &[usize], at: usize) -> usize
     ensures { result ≡ get_or list.now at 0 }
 {
     list.get(at).copied().unwrap_or(0)
@@ -125,6 +125,17 @@ pub fn list_for(registers: &[u32], variable: Variable, first: &[u32], part: Part
     bare.then_some(Given::First)
 }
 
+// The number of a list, by which a part is stored: 1 for the first, 2 for the second, 0 for none.
+pub fn list_number(given: Option<Given>) -> usize
+    ensures { result ≡ list_no given }
+{
+    match given {
+        Some(Given::First) => 1,
+        Some(Given::Second) => 2,
+        None => 0,
+    }
+}
+
 // A part that is there, from a place of the variables on.
 #[tactic(auto, unfolding(crate::specs::Words::written))]
 pub fn store_part(variables: &mut [u32], at: usize, trigger: u32, count: usize, pieces: &[u32])
@@ -138,25 +149,25 @@ pub fn store_part(variables: &mut [u32], at: usize, trigger: u32, count: usize, 
     store(variables, at + 3, pieces);
 }
 
-// The part that a list gives, or zeros.
+// The part that a list gives, or zeros. A list is named by its number here, and any other number names none.
 #[tactic(auto, unfolding(crate::specs::Lists::part_words))]
 pub fn store_given(
     variables: &mut [u32],
     at: usize,
     variable: Variable,
     trigger: u32,
-    given: Option<Given>,
+    from: usize,
     first: &[u32],
     second: &[u32],
 )
     requires at_bound { at < 2 ^ 32 }
     requires first_len_bound { length first.now < 2 ^ 32 }
     requires second_len_bound { length second.now < 2 ^ 32 }
-    ensures { variables.new ≡ written variables.old at (part_words variable first.now second.now trigger (list_no given)) }
+    ensures { variables.new ≡ written variables.old at (part_words variable first.now second.now trigger from) }
 {
-    match given {
-        Some(Given::First) => store_part(variables, at, trigger, variable.count, first),
-        Some(Given::Second) => store_part(variables, at, trigger, variable.rest.count, second),
-        None => store(variables, at, &[0; 27]),
+    match from {
+        1 => store_part(variables, at, trigger, variable.count, first),
+        2 => store_part(variables, at, trigger, variable.rest.count, second),
+        _ => store(variables, at, &[0; 27]),
     }
 }

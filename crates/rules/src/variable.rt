@@ -6,13 +6,12 @@ ghost use Rattle.tables.specs.Rules.{variable_fault, variable_shape};
 ghost use Rattle.tables.specs.Scan.{Mapped};
 ghost use Rattle.rules.specs.Words.{written};
 ghost use Rattle.rules.specs.Fault.{fault_of};
-ghost use Rattle.rules.specs.Lists.{list_no};
 ghost use Rattle.rules.specs.State.{state_in, state_of};
 ghost use Rattle.rules.specs.Variable.{triggers, head_words, with_variable, bad_behaviours, lowest, name_fault, first_pieces, second_pieces, EarlyOf, read_of, judge_variable, Asked, MappedUnless};
 
 use crate::declared::{Judging, Known};
 use crate::fault::{Fault, fault_if, fault_of};
-use crate::lists::{Given, list_for, resolve, store_given};
+use crate::lists::{list_for, list_number, resolve, store_given};
 use crate::modifiers::at_most_one;
 use crate::words::{narrow, put};
 use syntax::{Behaviours, Variable};
@@ -46,58 +45,40 @@ pub fn store_head(variables: &mut [u32], at: usize, variable: Variable)
     );
 }
 
-// What breaks before there is an entry; the list that gives each part, and the pieces of both lists as the tables hold
-// them.
-#[derive(Clone, Copy)]
-pub struct Early {
-    pub fault: Option<Fault>,
-    pub read: Option<Given>,
-    pub write: Option<Given>,
-    pub firsts: [u32; 24],
-    pub seconds: [u32; 24],
-}
-
 // Writes the variable behind those that are there, with the parts that its lists give.
 #[tactic(auto, unfolding(crate::specs::Variable::with_variable))]
-pub fn store_variable(variables: &mut [u32], variable: Variable, early: Early)
-    requires { count_of variables.old < 2 ^ 16 }
-    ensures { variables.new ≡ with_variable variables.old variable early.firsts early.seconds (list_no early.read) (list_no early.write) }
+pub fn store_variable(
+    variables: &mut [u32],
+    variable: Variable,
+    first: &[u32],
+    second: &[u32],
+    read: usize,
+    write: usize,
+)
+    requires variables_bound { count_of variables.old < 2 ^ 16 }
+    requires first_len_bound { length first.now < 2 ^ 32 }
+    requires second_len_bound { length second.now < 2 ^ 32 }
+    ensures { variables.new ≡ with_variable variables.old variable first.now second.now read write }
 {
     let v = word(variables, 0);
     let at = 59 * v + 1;
     let behaviours = variable.rest.behaviours;
     let reads = trigger_flag(behaviours, behaviours.read);
     let writes = trigger_flag(behaviours, behaviours.write);
-    let (first, second) = (&early.firsts, &early.seconds);
     store_head(variables, at, variable);
-    store_given(
-        variables,
-        at + 5,
-        variable,
-        reads,
-        early.read,
-        first,
-        second,
-    );
-    store_given(
-        variables,
-        at + 32,
-        variable,
-        writes,
-        early.write,
-        first,
-        second,
-    );
+    store_given(variables, at + 5, variable, reads, read, first, second);
+    store_given(variables, at + 32, variable, writes, write, first, second);
     put(variables, 0, narrow(v + 1));
 }
 
-// Rule 13, as written: `volatile` twice, or more triggers than a part may have.
+// Rule 13, as written: `volatile` twice, or more triggers than a part may have. `read` and `write` are the numbers of
+// the lists that give the parts.
 #[tactic(auto, unfolding(crate::specs::Variable::bad_behaviours))]
-pub fn bad_behaviours(b: Behaviours, read: Option<Given>, write: Option<Given>) -> bool
-    ensures { result ≡ bad_behaviours b (list_no read) (list_no write) }
+pub fn bad_behaviours(b: Behaviours, read: usize, write: usize) -> bool
+    ensures { result ≡ bad_behaviours b read write }
 {
-    let one_read = at_most_one(read.is_some(), b.bare, b.read);
-    let one_write = at_most_one(write.is_some(), b.bare, b.write);
+    let one_read = at_most_one(read != 0, b.bare, b.read);
+    let one_write = at_most_one(write != 0, b.bare, b.write);
     (2 <= b.volatile) | !one_read | !one_write
 }
 
@@ -121,18 +102,29 @@ pub fn late_number(
     variables: &[u32],
     v: usize,
     behaviours: Behaviours,
-    read: Option<Given>,
-    write: Option<Given>,
+    read: usize,
+    write: usize,
     reads: &[u8],
     writes: &[u8],
 ) -> u32
     requires v_bound { v < 2 ^ 16 }
     requires registers_bound { count_of registers.now ≤ 64 }
     requires mapped { Mapped variables.now v reads.now writes.now }
-    ensures { result ≡ lowest (variable_fault registers.now variables.now v) (cond (bad_behaviours behaviours (list_no read) (list_no write)) 13 0) }
+    ensures { result ≡ lowest (variable_fault registers.now variables.now v) (cond (bad_behaviours behaviours read write) 13 0) }
 {
     let entry = variable_fault(registers, variables, v, reads, writes);
     lowest(entry, pick(bad_behaviours(behaviours, read, write), 13, 0))
+}
+
+// What breaks before there is an entry; the number of the list that gives each part, and the pieces of both lists as
+// the tables hold them.
+#[derive(Clone, Copy)]
+pub struct Early {
+    pub fault: Option<Fault>,
+    pub read: usize,
+    pub write: usize,
+    pub firsts: [u32; 24],
+    pub seconds: [u32; 24],
 }
 
 // Writes the entry and judges it; where it breaks no rule, the maps take it in.
@@ -148,22 +140,23 @@ pub fn enter(
     requires variables_bound { count_of variables.old < 2 ^ 15 }
     requires variables_value { every (count_of variables.old) (variable_shape variables.old) ≡ true }
     requires mapped_2 { Mapped variables.old (count_of variables.old) reads.old writes.old }
-    ensures stored { variables.new ≡ with_variable variables.old variable early.firsts early.seconds (list_no early.read) (list_no early.write) }
-    ensures judged { result ≡ fault_of (lowest (variable_fault registers.now variables.new (count_of variables.old)) (cond (bad_behaviours variable.rest.behaviours (list_no early.read) (list_no early.write)) 13 0)) variable.place }
+    ensures stored { variables.new ≡ with_variable variables.old variable early.firsts early.seconds early.read early.write }
+    ensures judged { result ≡ fault_of (lowest (variable_fault registers.now variables.new (count_of variables.old)) (cond (bad_behaviours variable.rest.behaviours early.read early.write) 13 0)) variable.place }
     ensures mapped { MappedUnless result variables.new (count_of variables.old + 1) reads.new writes.new }
 {
     let v = word(variables, 0);
     let behaviours = variable.rest.behaviours;
-    store_variable(variables, variable, early);
-    let number = late_number(
-        registers,
+    let (read, write) = (early.read, early.write);
+    store_variable(
         variables,
-        v,
-        behaviours,
-        early.read,
-        early.write,
-        reads,
-        writes,
+        variable,
+        &early.firsts,
+        &early.seconds,
+        read,
+        write,
+    );
+    let number = late_number(
+        registers, variables, v, behaviours, read, write, reads, writes,
     );
     let fault = fault_of(number, variable.place);
     if fault.is_some() {
@@ -225,9 +218,9 @@ pub fn early_of(
         &mut firsts,
         &mut seconds,
     );
-    let read = list_for(known.registers, variable, &firsts, Part::Read);
-    let write = list_for(known.registers, variable, &firsts, Part::Write);
-    let unpaired = fault_if(read.is_none() & write.is_none(), 11, variable.place);
+    let read = list_number(list_for(known.registers, variable, &firsts, Part::Read));
+    let write = list_number(list_for(known.registers, variable, &firsts, Part::Write));
+    let unpaired = fault_if((read == 0) & (write == 0), 11, variable.place);
     Early {
         fault: names.or(unpaired),
         read,

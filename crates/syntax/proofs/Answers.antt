@@ -8,11 +8,8 @@ use mathlib.Core.List.{List, []}
 use lib.ListN.{length}
 use mathlib.Core.Option.{Option, none, none-ne-some, some-injective}
 use Rattle.std.specs.Prelude.{Ok, Err}
-use Rattle.token.specs.declared.Reason.{Reason}
-use Rattle.token.specs.declared.Reason.TheVariants.{NoToken, Unexpected, TooMuch}
 use Rattle.token.specs.declared.Refusal.{Refusal}
-use Rattle.token.specs.Kind.{number_of}
-use Rattle.syntax.specs.Step.{Step, too_much_at}
+use Rattle.syntax.specs.Step.{Step, refused_at, too_much_at}
 use Rattle.syntax.specs.Sizes.{passed_at, NotBefore, Kept}
 use Rattle.syntax.specs.Claim.{token_no, InLanguage, Stops, Passes, Right}
 use Rattle.syntax.specs.Text.{Declaration, reading_with, listed, reading}
@@ -22,19 +19,8 @@ use Rattle.syntax.proofs.Tally.{not_five}
 use Rattle.syntax.proofs.TallyText.{sizes-kept}
 
 -- a refusal is known by its number and its place
-same_reason : (a b : Reason) → number_of a ≡ number_of b → a ≡ b
-same_reason NoToken NoToken e = refl
-same_reason NoToken Unexpected e = absurd (omega arith)
-same_reason NoToken TooMuch e = absurd (omega arith)
-same_reason Unexpected NoToken e = absurd (omega arith)
-same_reason Unexpected Unexpected e = refl
-same_reason Unexpected TooMuch e = absurd (omega arith)
-same_reason TooMuch NoToken e = absurd (omega arith)
-same_reason TooMuch Unexpected e = absurd (omega arith)
-same_reason TooMuch TooMuch e = refl
-
-same_refusal : (a b : Refusal) → number_of a.why ≡ number_of b.why → a.place ≡ b.place → ◌≡◌ {A = Step} (Err a) (Err b)
-same_refusal a b e g = let w : a ≡ b = rw (same_reason a.why b.why e, g) in ap Err w
+same_refusal : (a b : Refusal) → a.number ≡ b.number → a.place ≡ b.place → ◌≡◌ {A = Step} (Err a) (Err b)
+same_refusal a b e g = let w : a ≡ b = rw (e, g) in ap Err w
 
 module _ (text : List ℕ) where
   stops-not_five : (n p : ℕ) → Stops text n p → n ≡ 5 → ⊥
@@ -86,12 +72,11 @@ module _ (text : List ℕ) where
   reads-exactly = (λ e. let r = (answers-exactly (Ok (length text))).0 e in (r.1, r.2), λ r. (answers-exactly (Ok (length text))).1 (refl, r.0, r.1))
 
   -- Refusals 3 and 4 are given exactly where no text of the grammar goes on, if no size is passed before.
-  pub stops-exactly : (stop : Refusal)
-      → (((reading text).step ≡ Err stop) × (number_of stop.why ≡ 5 → ⊥)) ↔ (Stops text (number_of stop.why) stop.place × NotBefore (passed_at text) stop.place)
+  pub stops-exactly : (n p : ℕ) → (((reading text).step ≡ refused_at n p) × (n ≡ 5 → ⊥)) ↔ (Stops text n p × NotBefore (passed_at text) p)
   unfolding Right
-  stops-exactly stop = (λ e. by ((answers-exactly (Err stop)).0 e.0) e.1, λ r. ((answers-exactly (Err stop)).1 (inl r), stops-not_five _ _ r.0))
+  stops-exactly n p = (λ e. by ((answers-exactly (refused_at n p)).0 e.0) e.1, λ r. ((answers-exactly (refused_at n p)).1 (inl r), stops-not_five n p r.0))
     where
-      by : Right text (Err stop) → (number_of stop.why ≡ 5 → ⊥) → Stops text (number_of stop.why) stop.place × NotBefore (passed_at text) stop.place
+      by : Right text (refused_at n p) → (n ≡ 5 → ⊥) → Stops text n p × NotBefore (passed_at text) p
       by (inl r) other = r
       by (inr r) other = absurd (other r.is-five)
 

@@ -13,7 +13,7 @@ use Rattle.token.specs.declared.Token.{Token}
 use Rattle.token.specs.declared.Token.TheVariants.{Name, Word, Number, Bits, Sign, End, Bad}
 use Rattle.token.specs.Scan.{scan_at}
 use Rattle.token.specs.Fair.{place_of, goes_on_lem, Whole}
-use Rattle.token.specs.Kind.{kind_of, refused_as, number_of}
+use Rattle.token.specs.Kind.{kind_of, refused_as}
 use Rattle.token.proofs.Laws.{scan-fair}
 use Rattle.grammar.specs.Grammar.{Text, StopsAt}
 use Rattle.syntax.specs.Published.{published, device-spec}
@@ -46,7 +46,7 @@ module _ (text : List ℕ) where
   -- What the grammar says of an answer, sizes aside.
   unfoldable pub ByGrammar : Step → Type 0
   ByGrammar (Ok end) = (end ≡ length text) × InLanguage text
-  ByGrammar (Err stop) = Stops text (number_of stop.why) stop.place ⊎ ((number_of stop.why ≡ 5) × ((n p : ℕ) → Stops text n p → stop.place < p))
+  ByGrammar (Err stop) = Stops text stop.number stop.place ⊎ ((stop.number ≡ 5) × ((n p : ℕ) → Stops text n p → stop.place < p))
 
   -- a token where the language stops, as the reader finds it
   stops_at : (k q : ℕ) → StopsAt (Text published device-spec) (kinds_of text) k → q ≡ walk (source text) k 0
@@ -108,7 +108,7 @@ module _ (text : List ℕ) where
       by true r = absurd (s.stops.no_text r.1)
       by false (inl r) = omega (arith, b.0, b.1, (scan-fair text q).from, (stops-once _ _ n p r s).1)
       by false (inr r) = omega (arith, b.0, b.1, (scan-fair text q).from, r.1 n p s)
-  before-stop place (Err stop) (inl r) b n p s = omega (arith, (stops-once (number_of stop.why) stop.place n p r s).1)
+  before-stop place (Err stop) (inl r) b n p s = omega (arith, (stops-once stop.number stop.place n p r s).1)
   before-stop place (Err stop) (inr r) b n p s = omega (arith, r.1 n p s)
 
   -- A reader that follows the grammar, and then asks for the end, answers rightly.

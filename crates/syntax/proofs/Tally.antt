@@ -16,7 +16,7 @@ use Rattle.token.specs.declared.Token.TheVariants.{Name, Word, Number, Bits, Sig
 use Rattle.token.specs.Scan.{scan_at}
 use Rattle.token.specs.Fair.{place_of, goes_on_lem}
 use Rattle.token.specs.declared.Refusal.{Refusal}
-use Rattle.token.specs.Kind.{kind_of, refused_as, number_of}
+use Rattle.token.specs.Kind.{kind_of, refused_as}
 use Rattle.token.specs.Tokens.{tokens_at}
 use Rattle.token.proofs.Laws.{passes, scan-fair}
 use Rattle.token.proofs.Reading.{tokens-on, tokens-end}
@@ -99,7 +99,7 @@ module _ (text : List ℕ) where
     -- to `w`; refused by 5, when `w` is that place; and refused by another number, when no size is passed before.
     unfoldable pub Agrees : Tally → Step → Type 0
     Agrees c (Ok at) = passed_in c (tokens_at text at) ≡ w
-    Agrees c (Err stop) = ((number_of stop.why ≡ 5) × (w ≡ some stop.place)) ⊎ ((number_of stop.why ≡ 5 → ⊥) × NotBefore w stop.place)
+    Agrees c (Err stop) = ((stop.number ≡ 5) × (w ≡ some stop.place)) ⊎ ((stop.number ≡ 5 → ⊥) × NotBefore w stop.place)
 
     -- a refusal agrees with every count or with none
     pub refused-agrees : (c d : Tally) (stop : Refusal) → Agrees c (Err stop) → Agrees d (Err stop)

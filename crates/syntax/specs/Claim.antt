@@ -7,7 +7,7 @@ use Rattle.token.specs.declared.Token.{Token}
 use Rattle.token.specs.declared.Token.TheVariants.{End}
 use Rattle.token.specs.Fair.{place_of, goes_on_lem}
 use Rattle.token.specs.Tokens.{tokens_of}
-use Rattle.token.specs.Kind.{kind_of, refused_as, number_of}
+use Rattle.token.specs.Kind.{kind_of, refused_as}
 use Rattle.grammar.specs.Grammar.{Text, StopsAt}
 use Rattle.syntax.specs.Published.{published, device-spec}
 use Rattle.syntax.specs.Step.{Step}
@@ -47,4 +47,4 @@ pub record Passes (text : List ℕ) (number place : ℕ) : Type 0 where
 unfoldable pub Right : List ℕ → Step → Type 0
 Right text (Ok end) = (end ≡ length text) × InLanguage text × (passed_at text ≡ none)
 Right text (Err refusal) =
-    (Stops text (number_of refusal.why) refusal.place × NotBefore (passed_at text) refusal.place) ⊎ Passes text (number_of refusal.why) refusal.place
+    (Stops text refusal.number refusal.place × NotBefore (passed_at text) refusal.place) ⊎ Passes text refusal.number refusal.place

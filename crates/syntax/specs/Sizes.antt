@@ -6,7 +6,7 @@ use Rattle.std.proofs.Math.Option.{Option, none, some}
 use Rattle.token.specs.declared.Token.{Token}
 use Rattle.token.specs.declared.Token.TheVariants.{Name, Word, Number, Bits, Sign, End, Bad}
 use Rattle.token.specs.Fair.{place_of}
-use Rattle.token.specs.Kind.{kind_of, number_of}
+use Rattle.token.specs.Kind.{kind_of}
 use Rattle.token.specs.Tokens.{tokens_of}
 use Rattle.syntax.specs.Step.{Step}
 use Rattle.syntax.specs.Limits.{name_bytes, most_parameters, most_ranges, most_registers, most_variables, most_pieces, deepest}
@@ -148,4 +148,4 @@ NotBefore (some q) p = p ≤ q
 unfoldable pub Kept : Option ℕ → Step → Type 0
 Kept passed (Ok end) = passed ≡ none
 Kept passed (Err refusal) =
-    ((number_of refusal.why ≡ 5) × (passed ≡ some refusal.place)) ⊎ ((number_of refusal.why ≡ 5 → ⊥) × NotBefore passed refusal.place)
+    ((refusal.number ≡ 5) × (passed ≡ some refusal.place)) ⊎ ((refusal.number ≡ 5 → ⊥) × NotBefore passed refusal.place)

@@ -58,7 +58,7 @@ module _ (s : List ℕ) (n k : ℕ) (slot_is : n ≡ slot_of s) (found : k ≡ w
   own : word_of s < 29 → k ≡ word_of s
   own h = found ∙ ap (λ (m : ℕ). word_in m) slot_is ∙ word-slot s h
 
-  found_word_lem : k < 29 → same s (get_or reserved k []) ≡ true → k ≡ word_of s
+  pub found_word_lem : k < 29 → same s (get_or reserved k []) ≡ true → k ≡ word_of s
   found_word_lem h e = go (ltb (word_of s) 29) refl
     where
       go : (b : Bool) → ltb (word_of s) 29 ≡ b → k ≡ word_of s

@@ -45,7 +45,7 @@ fn show_reading(out: &mut impl io::Write, text: &[u8]) -> io::Result<()> {
     match step {
         Ok(_) => writeln!(out, "reads {parameters} {registers} {variables}"),
         Err(refusal) => {
-            let number = refusal.number();
+            let number = refusal.number;
             let place = refusal.place;
             writeln!(out, "refused {number} {place}")
         }

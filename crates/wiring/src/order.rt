@@ -12,7 +12,9 @@ fn mentioned(variables: &[u32], part: BitList, r: usize, k: usize) -> bool
     requires k_bound { k ≤ 8 }
     ensures { result ≡ is_mentioned variables.now part r k }
 {
-    (0..k).any(|j| piece_at(variables, part, j).register == r)
+    (0..k)
+        .rev()
+        .any(|j| piece_at(variables, part, j).register == r)
 }
 
 // How many distinct registers the part has: the number of its accesses.
@@ -53,5 +55,7 @@ pub fn read_before(variables: &[u32], part: BitList, r: usize, step: usize) -> b
     requires { Usable part }
     ensures { result ≡ read_before variables.now part r step }
 {
-    (0..step).any(|n| register_at(variables, part, n) == r)
+    (0..step)
+        .rev()
+        .any(|n| register_at(variables, part, n) == r)
 }

@@ -62,13 +62,13 @@ pub operand-returns-in_err-deeper-in-Some-eq45 : goal.operand-returns-in_err-dee
 operand-returns-in_err-deeper-in-Some-eq45 t c =
     let deep = c.in_err-deeper-in-Some-eq45.ensures in
     handed _ c.from_residual.ensures
-    ∙ deep-read _ _ _ c.scan_at-found.ensures c.checked_sub.ensures (inl (opens-minus _ c.in-Some-eq45.ensures c.in-Some-eq45.field-0-test)) deep.ok_part c.place.ensures deep.value
+    ∙ deep-read _ _ _ c.scan_at-found.ensures c.checked_sub.ensures (inl (opens-minus _ c.in-Some-eq45.ensures c.in-Some-eq45.field-0-test)) deep.ok_part c.number.ensures c.place.ensures deep.value
 
 pub operand-returns-in_err-deeper-in-Some-eq40 : goal.operand-returns-in_err-deeper-in-Some-eq40
 operand-returns-in_err-deeper-in-Some-eq40 t c =
     let deep = c.in_err-deeper-in-Some-eq40.ensures in
     handed _ c.from_residual-in_err-deeper-in-Some-eq40.ensures
-    ∙ deep-read _ _ _ c.scan_at-found.ensures c.checked_sub.ensures (inr (opens-paren _ c.in-Some-eq40.ensures c.in-Some-eq40.field-0-test)) deep.ok_part c.place.ensures deep.value
+    ∙ deep-read _ _ _ c.scan_at-found.ensures c.checked_sub.ensures (inr (opens-paren _ c.in-Some-eq40.ensures c.in-Some-eq40.field-0-test)) deep.ok_part c.number.ensures c.place.ensures deep.value
 
 pub operand-returns-in_err-worth-in-Some-eq45 : goal.operand-returns-in_err-worth-in-Some-eq45
 operand-returns-in_err-worth-in-Some-eq45 t c =

@@ -4,7 +4,7 @@ use native.Mathlib.Omega.{arith}
 use borrow.Author.Tests.{lt-ltb}
 use lib.ListN.{length}
 use Rattle.pieces.specs.Pieces.{took_as, held_as, passes, piece_of}
-use Rattle.pieces.proofs.PieceLaws.{laid-is, took-is, stored-long}
+use Rattle.pieces.proofs.PieceLaws.{took-is, stored-long}
 use Rattle.pieces.proofs.take_piece.Goals as goal
 
 pub returns-then-is_short : goal.returns-then-is_short
@@ -16,10 +16,10 @@ unfolding took_as piece_of held_as passes
 returns-then-saturating_add-gt8192 c =
     rw (sym c.is_short.ensures ∙ c.if-is_short.false, lt-ltb 8192 (c.args.taken + length c.args.piece.now) (omega arith))
 
-pub slice_bounds-copy_from_slice-end : goal.slice_bounds-copy_from_slice-end
-slice_bounds-copy_from_slice-end c = stored-long _ (c.args.taken + length c.args.piece.now) _ c.is_short.ensures c.if-is_short.false (omega arith)
+pub lay-requires : goal.lay-requires
+lay-requires c = stored-long _ (c.args.taken + length c.args.piece.now) _ c.is_short.ensures c.if-is_short.false (omega arith)
 
 pub returns : goal.returns
 returns c =
     took-is _ c.args.store.now c.args.piece.now c.args.taken c.is_short.ensures c.if-is_short.false (omega arith)
-    (laid-is c.args.store.now c.args.piece.now c.args.taken c.copy_from_slice.ensures.after)
+    c.lay.ensures

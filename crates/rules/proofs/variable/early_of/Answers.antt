@@ -5,7 +5,6 @@ use mathlib.Core.List.{List}
 use Rattle.rules.specs.Lists.{list_for}
 use Rattle.rules.specs.State.{state_of}
 use Rattle.rules.specs.Variable.{read_of}
-use Rattle.rules.proofs.FaultLaws.{is-none-of}
 use Rattle.rules.specs.Fault.{or_else}
 use Rattle.rules.proofs.VariableLaws.{early-is}
 use Rattle.rules.proofs.variable.early_of.Goals as goal
@@ -22,12 +21,11 @@ unfolding or_else state_of read_of
 returns c =
     let a = c.args in
     let names = c.name_fault-names.ensures in
-    let read = c.list_for-read.ensures ∙ ap (λ (first : List ℕ). list_for a.known.registers.now a.variable first 0) names.first in
-    let write = c.list_for-write.ensures ∙ ap (λ (first : List ℕ). list_for a.known.registers.now a.variable first 1) names.first in
+    let read = c.list_number-read.ensures ∙ c.list_for.ensures ∙ ap (λ (first : List ℕ). list_for a.known.registers.now a.variable first 0) names.first in
+    let write = c.list_number-write.ensures ∙ c.list_for-2.ensures ∙ ap (λ (first : List ℕ). list_for a.known.registers.now a.variable first 1) names.first in
     record {
       fault =
-          early-is _ _ _ _ _ _ _ _ c.list_for-read.result c.list_for-write.result names.named read write
-          (c.fault_if-unpaired.ensures ∙ rw (is-none-of _ c.is_none.ensures, is-none-of _ c.is_none-2.ensures)) c.or.ensures;
+          early-is _ _ _ _ _ _ _ _ names.named read write c.fault_if-unpaired.ensures c.or.ensures;
       read = read;
       write = write;
       firsts = names.first;

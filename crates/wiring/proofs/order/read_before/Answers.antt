@@ -1,10 +1,8 @@
--- `wiring::order::read_before` meets its contract: the chain tests each of the accesses.
+-- `wiring::order::read_before` meets its contract: the chain tests each of the accesses, the last first.
 use borrow.Author.Rules.{rules}
 use borrow.Author.Tests.{tests}
-use mathlib.Core.Path.{refl, ◌∙◌}
-use Rattle.tables.proofs.RangeLaws.{any-range}
-use Rattle.wiring.proofs.OrderLaws.{some-below}
+use Rattle.wiring.proofs.OrderLaws.{any-back}
 use Rattle.wiring.proofs.order.read_before.Goals as goal
 
 pub returns : goal.returns
-returns c = any-range _ _ _ _ refl c.any.ensures.ran (λ x b q k. search (rules, tests)) ∙ some-below _ _
+returns c = any-back _ _ _ _ c.rev.ensures.source c.any.ensures.ran (λ x b q k. search (rules, tests))
