@@ -1,46 +1,30 @@
--- `token::bytes::digit` meets its contract: the ranges tested are those of the definition. Assumes nothing.
-use mathlib.Core.Path.{◌≡◌, sym, ◌∙◌}
+-- `token::bytes::digit` meets its contract: std's values of the digits below 36 and those of document 001, which stop
+-- at 16, are compared at each byte. Assumes nothing.
+use Prim.Native.Nat.{ℕ, ◌≤◌, ◌<◌}
+use mathlib.Core.Bool.{Bool}
+use mathlib.Core.Path.{◌≡◌}
+use native.Mathlib.Omega.{arith}
+use lib.Dec.{eqb, eqb→eq}
+use lib.ListN.{replicate}
+use borrow.Author.Tests.{lt-ltb, le-ltb}
+use Rattle.std.specs.Prelude.{Option, Some, None, SomeIff, min}
+use Rattle.std.specs.Char.{digit_value}
+use Rattle.token.specs.Bytes.{below, within}
 use Rattle.token.specs.Number.{digit_of}
-use Rattle.token.proofs.Bools.{within_both}
+use Rattle.token.proofs.Table.{at}
 use Rattle.token.proofs.bytes.digit.Goals as goal
-use Rattle.token.proofs.bytes.digit.Goals.{then-within, else-within+then-within-2, else-within+else-within-2+then-within-3, else-within+else-within-2+else-within-3}
 
-pub overflow_sub-value : goal.overflow_sub-value
-overflow_sub-value c = (within_both _ _ _ (sym c.within.ensures ∙ c.if-within.true)).0
+right : ℕ → ℕ → Bool
+right b x = eqb (min (digit_value b) 16) (digit_of b)
 
-pub overflow_sub-value-then-within-2 : goal.overflow_sub-value-then-within-2
-overflow_sub-value-then-within-2 c = (within_both _ _ _ (sym c.within-else-within.ensures ∙ c.if-within-2.true)).0
+values : (b : ℕ) → b < 256 → min (digit_value b) 16 ≡ digit_of b
+unfolding right digit_of within
+values b h = eqb→eq _ _ (at right (replicate 256 0) tt b (omega arith))
 
-pub overflow_sub-value-then-within-3 : goal.overflow_sub-value-then-within-3
-overflow_sub-value-then-within-3 c = (within_both _ _ _ (sym c.within-else-within-2.ensures ∙ c.if-within-3.true)).0
+told : (r : Option ℕ) (value digit radix : ℕ) → radix ≤ 16 → min value 16 ≡ digit → SomeIff r (value < radix) value → r ≡ below radix digit
+told None value digit radix most same h = rw (le-ltb digit radix (omega (arith, h)))
+told (Some x) value digit radix most same h =
+    let is : x ≡ digit = omega (arith, h.0, h.1) in rw (is, lt-ltb digit radix (omega (arith, h.0)))
 
 pub returns : goal.returns
-unfolding digit_of
-returns c =
-    let value : c.if-within.value ≡ digit_of c.args.b = elim c.if-within.branch [
-      | then-within w ↦ rw (w.value-is, sym c.within.ensures ∙ w.if-within.true, digit_of)
-      | else-within+then-within-2 w ↦
-          rw (
-            w.value-is,
-            sym c.within.ensures ∙ w.if-within.false,
-            sym w.within-else-within.ensures ∙ w.if-within-2.true,
-            digit_of,
-          )
-      | else-within+else-within-2+then-within-3 w ↦
-          rw (
-            w.value-is,
-            sym c.within.ensures ∙ w.if-within.false,
-            sym w.within-else-within.ensures ∙ w.if-within-2.false,
-            sym w.within-else-within-2.ensures ∙ w.if-within-3.true,
-            digit_of,
-          )
-      | else-within+else-within-2+else-within-3 w ↦
-          rw (
-            w.value-is,
-            sym c.within.ensures ∙ w.if-within.false,
-            sym w.within-else-within.ensures ∙ w.if-within-2.false,
-            sym w.within-else-within-2.ensures ∙ w.if-within-3.false,
-            digit_of,
-          )
-    ] in
-    rw (c.then_some.ensures, c.from-value.ensures, value)
+returns c = told _ _ _ _ c.requires.1 (values c.args.b (omega arith)) (rw c.from.ensures at c.to_digit.ensures.value)
