@@ -1,17 +1,27 @@
 -- Laws of words written and read.
 -- Assumes nothing.
-use Prim.Native.Nat.{ℕ, zero, suc, ◌<◌, ◌≤◌, ◌^◌}
+use Prim.Native.Nat.{ℕ, zero, suc, ◌<◌, ◌≤◌, ◌^◌, min}
 use mathlib.Core.Path.{◌≡◌, ◌∙◌, refl, sym, ap}
-use mathlib.Core.List.{List, [], ◌∷◌}
+use mathlib.Core.List.{List, [], ◌∷◌, ◌++◌}
 use native.Mathlib.Omega.{arith}
 use lib.IntN.{ℤ, pos}
-use lib.ListN.{length, get_or, set, take}
+use lib.ListN.{length, get_or, set, take, drop}
 use mir.Syntax.{w64}
 use mir.Val.{to_z, of_z}
 use Rattle.bits.proofs.Signed.{natural-read}
 use Rattle.abi.specs.Words.{written}
 
 module _ {A : Type 0} where
+  -- as many as there is room for are copied
+  pub copied : (told lent : List A) (n : ℕ) → n ≡ min (length told) (length lent) → take n told ++ drop n lent ≡ written told lent
+  unfolding written
+  copied [] lent zero e = refl
+  copied [] lent (suc n) e = absurd (omega arith)
+  copied (word ∷ told) [] zero e = refl
+  copied (word ∷ told) [] (suc n) e = absurd (omega arith)
+  copied (word ∷ told) (old ∷ lent) zero e = absurd (omega arith)
+  copied (word ∷ told) (old ∷ lent) (suc n) e = ap (word ∷◌) (copied told lent n (omega arith))
+
   -- one word more is written at its place, or lost where there is none
   pub written-on : (told lent : List A) (i : ℕ) {x : A} → i < length told → x ≡ get_or told i x → written (take (suc i) told) lent ≡ set (written (take i told) lent) i x
   unfolding written

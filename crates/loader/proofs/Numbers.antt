@@ -11,8 +11,9 @@ use lib.Dec.{eqb, leb}
 use borrow.Author.Tests.{leb-true, leb-false}
 use Rattle.std.specs.Prelude.{Option, Some, None}
 use Rattle.token.specs.declared.Token.{Token}
-use Rattle.token.specs.declared.Token.TheVariants.{Name, Word, Number, Bits, Sign, End, Bad}
-use Rattle.token.specs.Kind.{refused_as}
+use Rattle.token.specs.declared.Reason.{Reason}
+use Rattle.token.specs.declared.Reason.TheVariants.{NoToken, Unexpected, TooMuch}
+use Rattle.token.specs.Kind.{number_of, why_of, refused_as}
 use Rattle.syntax.specs.Step.{refused_at}
 use Rattle.syntax.specs.declared.register.Register.{Register}
 use Rattle.syntax.specs.Parameter.{ParameterRead}
@@ -36,14 +37,23 @@ use Rattle.loader.specs.Load.{beginning}
 use Rattle.loader.specs.Claim.{standing}
 
 -- ---- 3 to 5
+pub reason-number : (why : Reason) → (3 ≤ number_of why) × (number_of why ≤ 5)
+reason-number NoToken = (omega arith, omega arith)
+reason-number Unexpected = (omega arith, omega arith)
+reason-number TooMuch = (omega arith, omega arith)
+
+-- and each of the three is a reason's
+pub reason-of : (number : ℕ) → 3 ≤ number → number ≤ 5 → (why : Reason) × (number ≡ number_of why)
+reason-of zero l m = absurd (omega arith)
+reason-of (suc zero) l m = absurd (omega arith)
+reason-of (suc (suc zero)) l m = absurd (omega arith)
+reason-of (suc (suc (suc zero))) l m = (NoToken, refl)
+reason-of (suc (suc (suc (suc zero)))) l m = (Unexpected, refl)
+reason-of (suc (suc (suc (suc (suc zero))))) l m = (TooMuch, refl)
+reason-of (suc (suc (suc (suc (suc (suc n)))))) l m = absurd (omega arith)
+
 token-number : (t : Token) → (3 ≤ refused_as t) × (refused_as t ≤ 5)
-token-number (Name p n) = (omega arith, omega arith)
-token-number (Word p n) = (omega arith, omega arith)
-token-number (Number p v) = (omega arith, omega arith)
-token-number (Bits p n) = (omega arith, omega arith)
-token-number (Sign p s) = (omega arith, omega arith)
-token-number (End p) = (omega arith, omega arith)
-token-number (Bad p) = (omega arith, omega arith)
+token-number t = reason-number (why_of t)
 
 pub reading-number : (text : List ℕ) (number place : ℕ) → Right text (refused_at number place) → (3 ≤ number) × (number ≤ 5)
 unfolding Right

@@ -1,18 +1,26 @@
 -- What the code of the two calls cites. Assumes nothing.
-use Prim.Native.Nat.{ℕ, ◌+◌, ◌≤◌, ◌<◌}
+use Prim.Native.Nat.{ℕ, ◌+◌, ◌-◌, ◌≤◌, ◌<◌}
 use mathlib.Core.Path.{◌≡◌, sym, ap, ◌∙◌}
 use mathlib.Core.Bool.{Bool, false}
-use mathlib.Core.List.{List, ◌++◌}
+use mathlib.Core.List.{List, ◌++◌, append_assoc}
 use native.Mathlib.Numerals.{add-one}
 use native.Mathlib.Omega.{arith}
 use lib.ListN.{length, take, drop, set, get_or}
-use lib.Seq.{take-length, paste, paste-suc}
+use lib.Seq.{take-length, drop-drop, paste, paste-suc}
 use borrow.Author.Tests.{le-ltb}
 use Rattle.tables.specs.View.{Tables}
 use Rattle.loader.specs.Verdict.{Verdict}
 use Rattle.loader.specs.Load.{loaded, load_of}
 use Rattle.pieces.specs.Pieces.{more, held_as, took_as, is_short_for, passes, laid_at, ended_as, piece_of, end_of}
 use Rattle.pieces.proofs.Holding.{room}
+
+-- a piece laid behind what is taken
+pub laid-is : (store piece : List ℕ) (taken : ℕ) {part : List ℕ} → part ≡ piece
+    → take taken store ++ (part ++ drop (taken + length piece - taken) (drop taken store)) ≡ laid_at store taken piece
+unfolding laid_at
+laid-is store piece taken e =
+    let m : taken + length piece - taken ≡ length piece = omega arith in
+    rw (e, m, drop-drop (length piece) taken store, append_assoc)
 
 -- a turn of the loop that lays a piece
 pub laid-turn : (store now piece : List ℕ) (taken i : ℕ) → taken + length piece ≤ length store → i < length piece → now ≡ paste store taken piece i

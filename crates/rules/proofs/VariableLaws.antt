@@ -15,9 +15,12 @@ use Rattle.tables.specs.Tables.{count_of, variable_at, variable_part}
 use Rattle.tables.specs.Scan.{Mapped, enters_of}
 use Rattle.tables.specs.Marks.{marks}
 use Rattle.rules.specs.Words.{word_of, written}
-use Rattle.rules.specs.Lists.{part_words}
+use Rattle.rules.specs.Lists.{list_no, part_words}
+use Rattle.rules.specs.declared.lists.Given.{Given}
+use Rattle.rules.specs.declared.lists.Given.TheVariants.{First, Second}
 use Rattle.syntax.specs.Variable.{VariableRead}
-use Rattle.std.specs.Prelude.{Option}
+use Rattle.std.specs.Option.{is_none}
+use Rattle.std.specs.Prelude.{Option, Some, None}
 use Rattle.rules.specs.declared.fault.Fault.{Fault}
 use Rattle.rules.specs.declared.declared.Judging.{Judging}
 use Rattle.rules.specs.declared.variable.Early.{Early}
@@ -81,6 +84,12 @@ mapped_at rs t other {v = v} few is none e m r w =
     rw (← e) (mapped-more rs t v few (own-none rs t v (lowest-none (variable_fault rs t v) other (sym is ∙ none))) m r w)
 
 -- ---- the judging, call by call
+-- no list has number 0
+pub none-is : (given : Option Given) → is_none given ≡ eqb (list_no given) 0
+none-is None = refl
+none-is (Some First) = refl
+none-is (Some Second) = refl
+
 module _ (text : List ℕ) (j : Judging) (ps rs vs : List ℕ) (d : Variable) (first second : List ℕ) where
   abbrev before : State
   before = state_of j ps rs vs
